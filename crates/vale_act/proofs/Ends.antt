@@ -57,7 +57,7 @@ module _ (fabric : Fabric) (program : Program) (inputs : List InputFile) (files 
   ends-played so =
       let all = play-whole program (captures_of inputs) w afters has-captures (closes.plays program (captures_of inputs) pool (sym so.count) so.played) closes.gone
       (end-mine m w befores afters (fixed_in fabric).pool closes so.held) in
-      record { users = all.0; played = all.1.0; are = all.1.1 }
+      record { cast = all.0; played = all.1.0; are = all.1.1 }
 
   stops-by : (fault : StepFault) → IsHeld m (flat_map knows_at befores) → IsScriptStop (fixed_in fabric) program (captures_of inputs) m befores fault → IsScriptStopped (fixed_in fabric) program (captures_of inputs) w.seen fault
   stops-by NoMemory held stop = tt

@@ -92,11 +92,11 @@ pub plays-script : (program : Program) (captures : Captures) (pool : ℕ) (v : K
     → ((history : List Entry) (users : List Machine) → saves_of users ≡ flat_map files_in lists → AreWhole program.pool history kept → made ≡ outputs_of program history users)
     → AllByRecursion IsWritable made → PlaysScript program captures v.seen made
 plays-script program captures pool v lists kept made same done whole is writable =
-    let saves : saves_of done.played.users ≡ flat_map files_in lists =
-    users-saves program.pool 1 done.seats done.played.users done.gone done.played.are ∙ sym (same-flat files_in saves_at lists done.seats done.saved.len done.saved.each) in
+    let saves : saves_of done.played.cast.users ≡ flat_map files_in lists =
+    users-saves program.pool 1 done.seats done.played.cast.users done.gone done.played.are ∙ sym (same-flat files_in saves_at lists done.seats done.saved.len done.saved.each) in
     record {
-      users = done.played.users;
+      cast = done.played.cast;
       played = done.played.played;
-      saved = is v.seen done.played.users saves (subst (λ (n : ℕ). AreWhole n v.seen kept) same whole);
+      saved = is v.seen done.played.cast.users saves (subst (λ (n : ℕ). AreWhole n v.seen kept) same whole);
       writable = writable;
     }

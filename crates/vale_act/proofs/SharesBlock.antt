@@ -64,7 +64,7 @@ front-more front user number count = let all = length-append front (user ∷ [])
 -- where all of these users have come, in front of which stand others
 record ComesFrom (pool number : ℕ) (main next : Knowing) (shares : ScriptUnit) (afters : List Seat) (lists : List (List ℕ)) (front users : List Machine) : Type 0 where
   laters : List Machine
-  each : EachShare (PlaysShare pool next.seen) (front ++ users) shares lists laters
+  each : EachShare (PlaysShare pool next.seen) (record { users = front ++ users }) shares lists laters
   news : List Machine
   are : AreUsersFrom pool number afters news
   become : (others : List Machine) → length others + 1 ≡ number → with_afters shares laters (others ++ users) ≡ others ++ news
@@ -95,7 +95,7 @@ come-more : (pool number : ℕ) (main next : Knowing) (share : UnitShare) (share
     → ComesFrom pool number main next (share ∷ shares) (after ∷ afters) (ns ∷ lists) front (user ∷ users)
 come-more pool number main next share shares before after afters ns lists front user later users is count plays at rest = record {
   laters = later ∷ rest.laters;
-  each = ((user, here, plays), subst (λ (l : List Machine). EachShare (PlaysShare pool next.seen) l shares lists rest.laters) (to-front front user users) rest.each);
+  each = ((user, here, plays), subst (λ (l : List Machine). EachShare (PlaysShare pool next.seen) (record { users = l }) shares lists rest.laters) (to-front front user users) rest.each);
   news = later ∷ rest.news;
   are = (at, rest.are);
   become = become;
@@ -117,7 +117,7 @@ come-idle : (pool number : ℕ) (main next : Knowing) (shares : ScriptUnit) (aft
     → ComesFrom pool number main next shares (after ∷ afters) lists front (user ∷ users)
 come-idle pool number main next shares after afters lists front user users at rest = record {
   laters = rest.laters;
-  each = subst (λ (l : List Machine). EachShare (PlaysShare pool next.seen) l shares lists rest.laters) (to-front front user users) rest.each;
+  each = subst (λ (l : List Machine). EachShare (PlaysShare pool next.seen) (record { users = l }) shares lists rest.laters) (to-front front user users) rest.each;
   news = user ∷ rest.news;
   are = (at, rest.are);
   become = λ others many.
@@ -186,8 +186,8 @@ block-unit pool records lines main next befores afters begins mine all =
     record {
       begins = begins;
       lists = played.lists;
-      plays = λ users are.
-          let come = played.comes [] users refl are in
+      plays = λ cast are.
+          let come = played.comes [] cast.users refl are in
           (come.laters, (come.each, subst (AreUsersFrom pool 1 afters) (sym (come.become [] refl)) come.are));
       inside = played.inside;
       made = λ n. made-block n main next befores afters played.lists mine (played.made n);
@@ -198,7 +198,7 @@ block-unit pool records lines main next befores afters begins mine all =
 record StopFrom (pool number count user : ℕ) (call : Ask) (main next : Knowing) (shares : ScriptUnit) (befores afters : List Seat) : Type 0 where
   lists : List (List ℕ)
   works : (front users : List Machine) → length front + 1 ≡ number → AreUsersFrom pool number befores users
-      → (laters : List Machine) × EachShare (PlaysOrStops pool next.seen count user call) (front ++ users) shares lists laters
+      → (laters : List Machine) × EachShare (PlaysOrStops pool next.seen count user call) (record { users = front ++ users }) shares lists laters
   inside : AllByRecursion (AllByRecursion (IsWithin (length main.seen) (length next.seen))) lists
   made : (n : ℕ) → times_made n (flat_map knows_at afters) ≡ times_made n (flat_map knows_at befores) + times_among n lists
 
@@ -206,7 +206,7 @@ stop-none : (pool number count user : ℕ) (call : Ask) (main next : Knowing) �
 stop-none pool number count user call main next = record { lists = []; works = works; inside = tt; made = λ n. omega arith }
   where
     works : (front users : List Machine) → length front + 1 ≡ number → AreUsersFrom pool number [] users
-        → (laters : List Machine) × EachShare (PlaysOrStops pool next.seen count user call) (front ++ users) [] [] laters
+        → (laters : List Machine) × EachShare (PlaysOrStops pool next.seen count user call) (record { users = front ++ users }) [] [] laters
     works front [] many are = ([], tt)
     works front (other ∷ users) many are = absurd are
 
@@ -228,13 +228,13 @@ stop-more pool number count user call main next share shares before after before
 }
   where
     works : (front users : List Machine) → length front + 1 ≡ number → AreUsersFrom pool number (before ∷ befores) users
-        → (laters : List Machine) × EachShare (PlaysOrStops pool next.seen count user call) (front ++ users) (share ∷ shares) (one.ns ∷ rest.lists) laters
+        → (laters : List Machine) × EachShare (PlaysOrStops pool next.seen count user call) (record { users = front ++ users }) (share ∷ shares) (one.ns ∷ rest.lists) laters
     works front [] many are = absurd are
     works front (here ∷ users) many are =
         let went = one.works here are.0 in
         let more = rest.works (front ++ here ∷ []) users (front-more front here number many) are.1 in
         let at : slice_get (front ++ here ∷ users) (share.user - 1) ≡ Some here = ap (λ (k : ℕ). slice_get (front ++ here ∷ users) (k - 1)) is ∙ place-here front here users number many in
-        (went.0 ∷ more.0, ((here, at, went.1), subst (λ (l : List Machine). EachShare (PlaysOrStops pool next.seen count user call) l shares rest.lists more.0) (to-front front here users) more.1))
+        (went.0 ∷ more.0, ((here, at, went.1), subst (λ (l : List Machine). EachShare (PlaysOrStops pool next.seen count user call) (record { users = l }) shares rest.lists more.0) (to-front front here users) more.1))
 
 stop-idle : (pool number count user : ℕ) (call : Ask) (main next : Knowing) (shares : ScriptUnit) (before after : Seat) (befores afters : List Seat) (ns : List ℕ)
     → ns ≡ [] → ((n : ℕ) → times_made n (knows_at after) ≡ times_made n (knows_at before) + times_among n (ns ∷ [])) → StopFrom pool (number + 1) count user call main next shares befores afters
@@ -247,11 +247,11 @@ stop-idle pool number count user call main next shares before after befores afte
 }
   where
     works : (front users : List Machine) → length front + 1 ≡ number → AreUsersFrom pool number (before ∷ befores) users
-        → (laters : List Machine) × EachShare (PlaysOrStops pool next.seen count user call) (front ++ users) shares rest.lists laters
+        → (laters : List Machine) × EachShare (PlaysOrStops pool next.seen count user call) (record { users = front ++ users }) shares rest.lists laters
     works front [] many are = absurd are
     works front (here ∷ users) many are =
         let more = rest.works (front ++ here ∷ []) users (front-more front here number many) are.1 in
-        (more.0, subst (λ (l : List Machine). EachShare (PlaysOrStops pool next.seen count user call) l shares rest.lists more.0) (to-front front here users) more.1)
+        (more.0, subst (λ (l : List Machine). EachShare (PlaysOrStops pool next.seen count user call) (record { users = l }) shares rest.lists more.0) (to-front front here users) more.1)
 
 -- those of smaller numbers play, those of greater ones replay, and the one between stops
 at-smaller : (pool number count user : ℕ) (call : Ask) (records : List ℕ → List (List ℕ)) (lines : List Line) (main next : Knowing) (before after : Seat) → number < user
@@ -358,7 +358,7 @@ block-stops fixed records lines at count call fault main next befores afters beg
     record {
       begins = begins;
       lists = stopped.from.lists;
-      works = λ users are. stopped.from.works [] users refl are;
+      works = λ cast are. stopped.from.works [] cast.users refl are;
       inside = stopped.from.inside;
       made = λ n. made-block n main next befores afters stopped.from.lists mine (stopped.from.made n);
       of_unit = stopped.there;

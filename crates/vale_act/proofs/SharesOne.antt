@@ -19,10 +19,10 @@ pub share-unit : ShareIsUnit
 share-unit pool share main next seats before after here some begins plays made = record {
   begins = begins;
   lists = numbers plays.added ∷ [];
-  plays = λ users are.
-      let found : UserIn pool (1 + (share.user - 1)) before users (share.user - 1) = user-in pool 1 seats users (share.user - 1) before are here in
+  plays = λ cast are.
+      let found : UserIn pool (1 + (share.user - 1)) before cast.users (share.user - 1) = user-in pool 1 seats cast.users (share.user - 1) before are here in
       let went = plays.plays found.user (of-place pool share.user before found.user some found.at) in
-      (went.0 ∷ [], (((found.user, found.here, went.1.0), tt), users-set pool 1 seats users (share.user - 1) after went.0 are (at-place pool share.user after went.0 some went.1.1)));
+      (went.0 ∷ [], (((found.user, found.here, went.1.0), tt), users-set pool 1 seats cast.users (share.user - 1) after went.0 are (at-place pool share.user after went.0 some went.1.1)));
   inside = (plays.inside, tt);
   made = λ n. made-share n main next seats (share.user - 1) before after (numbers plays.added ∷ []) here (made n);
 }
@@ -34,8 +34,8 @@ pub share-stops : ShareStops
 share-stops fixed share count call fault main next seats before after here some begins stops made forward seen refusal = record {
   begins = begins;
   lists = numbers stops.replays.added ∷ [];
-  works = λ users are.
-      let found : UserIn fixed.pool (1 + (share.user - 1)) before users (share.user - 1) = user-in fixed.pool 1 seats users (share.user - 1) before are here in
+  works = λ cast are.
+      let found : UserIn fixed.pool (1 + (share.user - 1)) before cast.users (share.user - 1) = user-in fixed.pool 1 seats cast.users (share.user - 1) before are here in
       let at = of-place fixed.pool share.user before found.user some found.at in
       let went = stops.replays.replays found.user at in
       (went.0 ∷ [], ((found.user, found.here, record { replays = went.1; smaller = λ less. absurd (omega (arith, less)); stops = λ is. stops.stops found.user at }), tt));

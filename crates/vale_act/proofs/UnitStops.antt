@@ -7,7 +7,7 @@ use Rattle.vale_entry.specs.declared.entry.Ask.{Ask}
 use Rattle.vale_entry.specs.declared.entry.Entry.{Entry}
 use Rattle.vale_entry.specs.Legal.{standing_of, world_of}
 use Rattle.vale_replay.specs.Machine.{Machine, next_call}
-use Rattle.vale_replay.specs.Replay.{UnitShare, EachShare, PlaysUser, AreSplit, last_of, starting, times_among, units_of, users_of}
+use Rattle.vale_replay.specs.Replay.{UnitShare, EachShare, PlaysUser, AreSplit, cast_of, last_of, starting, times_among, units_of}
 use Rattle.vale_replay.specs.Joined.{lists_in}
 use Rattle.vale_replay.specs.Stops.{PlaysOrStops}
 use Rattle.vale_replay.proofs.Numbers.{rise-within}
@@ -41,16 +41,16 @@ stop-whole program captures fixed done unit user count call fault main next last
   files = files;
   done = done;
   lists = played.lists;
-  users = played.users;
+  cast = played.cast;
   first = length main.seen;
-  turns = turns-longer program.pool main.seen last.seen (users_of program) (take done (units_of program captures)) played.lists played.users (prefix_trans main.seen next.seen last.seen stops.begins begins) played.turns;
+  turns = turns-longer program.pool main.seen last.seen (cast_of program) (take done (units_of program captures)) played.lists played.cast (prefix_trans main.seen next.seen last.seen stops.begins begins) played.turns;
   unit = unit;
   there = there;
   of_unit = stops.of_unit;
   last = length next.seen;
   unit_lists = stops.lists;
   afters = works.0;
-  works = each-weaker (PlaysOrStops program.pool next.seen count user call) (PlaysOrStops program.pool last.seen count user call) played.users unit stops.lists works.0
+  works = each-weaker (PlaysOrStops program.pool next.seen count user call) (PlaysOrStops program.pool last.seen count user call) played.cast unit stops.lists works.0
       (longer-works program.pool next.seen last.seen count user call begins stops.seen) works.1;
   inside = stops.inside;
   split = split-from 0 (length next.seen) (lists_in played.lists ++ stops.lists) once below above;
@@ -59,10 +59,10 @@ stop-whole program captures fixed done unit user count call fault main next last
   within = long;
 }
   where
-    works : (afters : List Machine) × EachShare (PlaysOrStops program.pool next.seen count user call) played.users unit stops.lists afters
+    works : (afters : List Machine) × EachShare (PlaysOrStops program.pool next.seen count user call) played.cast unit stops.lists afters
     works =
-        subst (λ (p : ℕ). (afters : List Machine) × EachShare (PlaysOrStops p next.seen count user call) played.users unit stops.lists afters) pool
-        (stops.works played.users (subst (λ (p : ℕ). AreUsersFrom p 1 before played.users) (sym pool) played.users_are))
+        subst (λ (p : ℕ). (afters : List Machine) × EachShare (PlaysOrStops p next.seen count user call) played.cast unit stops.lists afters) pool
+        (stops.works played.cast (subst (λ (p : ℕ). AreUsersFrom p 1 before played.cast.users) (sym pool) played.users_are))
 
     long : length next.seen ≤ length last.seen
     long = prefix_length next.seen last.seen begins
@@ -88,7 +88,7 @@ stop-whole program captures fixed done unit user count call fault main next last
     above : (b : ℕ) → length next.seen < b → times_among b (lists_in played.lists ++ stops.lists) ≡ 0
     above b past =
         let before-unit = prefix_length main.seen next.seen stops.begins in
-        let one = outside-units program.pool main.seen (users_of program) 0 (take done (units_of program captures)) played.lists played.users (length main.seen) b played.turns (inr (omega (arith, past, before-unit))) in
+        let one = outside-units program.pool main.seen (cast_of program) 0 (take done (units_of program captures)) played.lists played.cast (length main.seen) b played.turns (inr (omega (arith, past, before-unit))) in
         let two = outside-lists (length main.seen) (length next.seen) b stops.lists (inr past) stops.inside in
         let all = both b in
         omega (arith, one, two, all)

@@ -12,7 +12,7 @@ use Rattle.vale_entry.specs.declared.entry.Entry.{Entry}
 use Rattle.vale_fabric.specs.Fabrics.{Knowing}
 use Rattle.vale_fabric.proofs.LeaseFilling.{taken-next}
 use Rattle.vale_replay.specs.Machine.{Machine, new_machine}
-use Rattle.vale_replay.specs.Replay.{ScriptUnit, EachShare, AreSplit, times_among, units_of, user_count, users_of, with_afters}
+use Rattle.vale_replay.specs.Replay.{Cast, ScriptUnit, EachShare, AreSplit, cast_after, cast_of, times_among, units_of, user_count}
 use Rattle.vale_replay.specs.Joined.{PlaysShare, TurnsOfUnit, TurnsOfUnits, lists_in}
 use Rattle.vale_replay.proofs.Numbers.{range-split}
 use Rattle.vale_replay.proofs.Joins.{among-append, joins-users}
@@ -38,7 +38,7 @@ away-knows (suc count) = away-knows count
 
 pub play-begins : PlayBegins
 play-begins program captures main seen mine = record {
-  users = users_of program;
+  cast = cast_of program;
   lists = [];
   turns = (refl, ap length seen);
   users_are = away-users program.pool 1 (user_count program);
@@ -50,11 +50,11 @@ play-begins program captures main seen mine = record {
 -- ---- a unit more
 
 -- units that were played are read in every longer history
-pub turns-longer : (pool : ℕ) (h k : List Entry) (users : List Machine) (units : List ScriptUnit) (lists : List (List (List ℕ))) (next : List Machine) → IsPrefix h k
-    → TurnsOfUnits pool h users 0 units lists next (length h) → TurnsOfUnits pool k users 0 units lists next (length h)
-turns-longer pool h k users units lists next begins turns =
-    (turns-read pool k (length h) users 0 units lists next (length h) (le_refl (length h))).1
-    (subst (λ (es : List Entry). TurnsOfUnits pool es users 0 units lists next (length h)) (sym (begins-cut h k begins)) turns)
+pub turns-longer : (pool : ℕ) (h k : List Entry) (cast : Cast) (units : List ScriptUnit) (lists : List (List (List ℕ))) (next : Cast) → IsPrefix h k
+    → TurnsOfUnits pool h cast 0 units lists next (length h) → TurnsOfUnits pool k cast 0 units lists next (length h)
+turns-longer pool h k cast units lists next begins turns =
+    (turns-read pool k (length h) cast 0 units lists next (length h) (le_refl (length h))).1
+    (subst (λ (es : List Entry). TurnsOfUnits pool es cast 0 units lists next (length h)) (sym (begins-cut h k begins)) turns)
 
 among-then : (number : ℕ) (units : List (List (List ℕ))) (lists : List (List ℕ)) → times_among number (lists_in (units ++ lists ∷ [])) ≡ times_among number (lists_in units) + times_among number lists
 among-then number [] lists = let all = among-append number lists [] in omega (arith, all)
@@ -66,23 +66,23 @@ among-then number (first ∷ units) lists =
 
 pub unit-played : UnitIsPlayed
 unit-played program captures done unit main next before after there played plays = record {
-  users = users;
+  cast = cast;
   lists = played.lists ++ plays.lists ∷ [];
-  turns = subst (λ (units : List ScriptUnit). TurnsOfUnits program.pool next.seen (users_of program) 0 units (played.lists ++ plays.lists ∷ []) users (length next.seen)) (sym (taken-next (units_of program captures) done unit there))
-      (turns-go_on program.pool next.seen (users_of program) 0 (take done (units_of program captures)) played.lists played.users (length main.seen) unit plays.lists users (length next.seen)
-      (turns-longer program.pool main.seen next.seen (users_of program) (take done (units_of program captures)) played.lists played.users plays.begins played.turns) turn);
+  turns = subst (λ (units : List ScriptUnit). TurnsOfUnits program.pool next.seen (cast_of program) 0 units (played.lists ++ plays.lists ∷ []) cast (length next.seen)) (sym (taken-next (units_of program captures) done unit there))
+      (turns-go_on program.pool next.seen (cast_of program) 0 (take done (units_of program captures)) played.lists played.cast (length main.seen) unit plays.lists cast (length next.seen)
+      (turns-longer program.pool main.seen next.seen (cast_of program) (take done (units_of program captures)) played.lists played.cast plays.begins played.turns) turn);
   users_are = works.1.1;
   made = λ number.
       plays.made number ∙ ap (λ (k : ℕ). k + times_among number plays.lists) (played.made number) ∙ sym (among-then number played.lists plays.lists);
 }
   where
-    works : (afters : List Machine) × (EachShare (PlaysShare program.pool next.seen) played.users unit plays.lists afters × AreUsersFrom program.pool 1 after (with_afters unit afters played.users))
-    works = plays.plays played.users played.users_are
+    works : (afters : List Machine) × (EachShare (PlaysShare program.pool next.seen) played.cast unit plays.lists afters × AreUsersFrom program.pool 1 after (cast_after unit afters played.cast).users)
+    works = plays.plays played.cast played.users_are
 
-    users : List Machine
-    users = with_afters unit works.0 played.users
+    cast : Cast
+    cast = cast_after unit works.0 played.cast
 
-    turn : TurnsOfUnit program.pool next.seen played.users (length main.seen) unit plays.lists users (length next.seen)
+    turn : TurnsOfUnit program.pool next.seen played.cast (length main.seen) unit plays.lists cast (length next.seen)
     turn = record { afters = works.0; forward = prefix_length main.seen next.seen plays.begins; plays = works.1.0; inside = plays.inside; others = refl }
 
 -- ---- the end
@@ -98,13 +98,13 @@ whole-split mine seen whole =
 
 pub play-whole : PlayIsWhole
 play-whole program captures main seats files played none whole =
-    (played.users, (joins-users program captures main.seen played.lists played.users (record { files = files; turns = turns }) split, played.users_are))
+    (played.cast, (joins-users program captures main.seen played.lists played.cast (record { files = files; turns = turns }) split, played.users_are))
   where
     units : List ScriptUnit
     units = units_of program captures
 
-    turns : TurnsOfUnits program.pool main.seen (users_of program) 0 units played.lists played.users (length main.seen)
-    turns = subst (λ (us : List ScriptUnit). TurnsOfUnits program.pool main.seen (users_of program) 0 us played.lists played.users (length main.seen)) (take_all (length units) units (le_refl (length units))) played.turns
+    turns : TurnsOfUnits program.pool main.seen (cast_of program) 0 units played.lists played.cast (length main.seen)
+    turns = subst (λ (us : List ScriptUnit). TurnsOfUnits program.pool main.seen (cast_of program) 0 us played.lists played.cast (length main.seen)) (take_all (length units) units (le_refl (length units))) played.turns
 
     split : AreSplit 0 (length main.seen) (lists_in played.lists)
     split number = sym (played.made number) ∙ (alone-made number main seats none ∙ whole-split main.mine main.seen whole number)

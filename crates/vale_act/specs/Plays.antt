@@ -12,8 +12,7 @@ use Rattle.vale_fabric.specs.declared.kept.Fixed.{Fixed}
 use Rattle.vale_fabric.specs.Fabrics.{Knowing, record_in}
 use Rattle.vale_script.specs.Script.{Program}
 use Rattle.vale_captures.specs.Outputs.{OutputFile, IsWritable}
-use Rattle.vale_replay.specs.Machine.{Machine}
-use Rattle.vale_replay.specs.Replay.{HasPlayed}
+use Rattle.vale_replay.specs.Replay.{Cast, HasPlayed}
 use Rattle.vale_replay.specs.Stops.{HasStopped as HaveStopped}
 use Rattle.vale_replay.specs.Tasks.{Captures}
 use Rattle.vale_act.specs.Outputs.{outputs_of}
@@ -25,9 +24,9 @@ pub record HasWhole (v : Knowing) : Type 0 where
 
 -- the script was played by this history, and has saved these files
 pub record PlaysScript (program : Program) (captures : Captures) (history : List Entry) (outputs : List OutputFile) : Type 0 where
-  pub users : List Machine
-  pub played : HasPlayed program captures history users
-  pub saved : outputs ≡ outputs_of program history users
+  pub cast : Cast
+  pub played : HasPlayed program captures history cast
+  pub saved : outputs ≡ outputs_of program history cast.users
   pub writable : AllByRecursion IsWritable outputs
 
 -- or users have stopped in it: the one of the smallest number at this call, for which the record had no

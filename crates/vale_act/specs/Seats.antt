@@ -28,7 +28,7 @@ use Rattle.nm_user.specs.Calls.{IsRefused}
 use Rattle.vale_fabric.specs.declared.kept.Fixed.{Fixed}
 use Rattle.vale_replay.specs.Machine.{Machine, Save, closing_tasks}
 use Rattle.vale_replay.specs.Tasks.{Captures, Task, tasks_of_lines}
-use Rattle.vale_replay.specs.Replay.{HasPlayed, ScriptUnit, times_among, units_of, user_count}
+use Rattle.vale_replay.specs.Replay.{Cast, HasPlayed, ScriptUnit, times_among, units_of, user_count}
 use Rattle.vale_fabric.specs.declared.fabric.Fabric.{Fabric}
 use Rattle.vale_fabric.specs.Fabrics.{Knowing, IsPassIn, record_in}
 use Rattle.vale_player.specs.Players.{PlayerState, Does, HasEntered, IsStill, RunsLines, Stops}
@@ -312,9 +312,9 @@ pub record AreStopped (fixed : Fixed) (program : Program) (captures : Captures) 
 
 -- the history plays it, and has brought its users to those of these seats
 pub record ScriptPlayed (program : Program) (captures : Captures) (w : Knowing) (seats : List Seat) : Type 0 where
-  pub users : List Machine
-  pub played : HasPlayed program captures w.seen users
-  pub are : AreUsersFrom program.pool 1 seats users
+  pub cast : Cast
+  pub played : HasPlayed program captures w.seen cast
+  pub are : AreUsersFrom program.pool 1 seats cast.users
 
 -- or a full record stops a user in it
 abbrev pub IsScriptStopped : Fixed → Program → Captures → List Entry → StepFault → Type 0

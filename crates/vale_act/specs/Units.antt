@@ -24,7 +24,7 @@ use Rattle.vale_script.specs.declared.script.Unit.TheVariants as parts
 use Rattle.vale_script.specs.Script.{Program}
 use Rattle.vale_replay.specs.Tasks.{Task, Arrive, EndLine, Captures, tasks_of_lines}
 use Rattle.vale_replay.specs.Machine.{Machine, Save, closing_tasks, new_machine, resting}
-use Rattle.vale_replay.specs.Replay.{UnitShare, ScriptUnit, EachShare, HasCaptures, HasPlayed, PlaysUser, ReplaysUser, acts_of, has_line, is_share_of, shares_of, times_among, units_of, user_count, users_of, with_afters}
+use Rattle.vale_replay.specs.Replay.{Cast, UnitShare, ScriptUnit, EachShare, HasCaptures, HasPlayed, PlaysUser, ReplaysUser, acts_of, cast_after, cast_of, has_line, is_share_of, shares_of, times_among, units_of, user_count}
 use Rattle.vale_replay.specs.Joined.{PlaysShare, TurnsOfUnits, IsWithin, lists_in}
 use Rattle.vale_replay.specs.Stops.{PlaysOrStops, StopsUser}
 use Rattle.vale_replay.specs.Stops.{HasStopped as HaveStopped}
@@ -69,18 +69,18 @@ IsOn fabric _ = Unit {0}
 -- The users have played so many units of a script, up to the last entry that the main pass has seen,
 -- and the numbers of their turns are those of the passes' own entries.
 pub record HavePlayed (program : Program) (captures : Captures) (done : ℕ) (main : Knowing) (seats : List Seat) : Type 0 where
-  pub users : List Machine
+  pub cast : Cast
   pub lists : List (List (List ℕ))
-  pub turns : TurnsOfUnits program.pool main.seen (users_of program) 0 (take done (units_of program captures)) lists users (length main.seen)
-  pub users_are : AreUsersFrom program.pool 1 seats users
+  pub turns : TurnsOfUnits program.pool main.seen (cast_of program) 0 (take done (units_of program captures)) lists cast (length main.seen)
+  pub users_are : AreUsersFrom program.pool 1 seats cast.users
   pub made : (number : ℕ) → times_made number (all_know main seats) ≡ times_among number (lists_in lists)
 
 -- They play a unit more, by entries behind those.
 pub record PlaysUnit (pool : ℕ) (unit : ScriptUnit) (main next : Knowing) (before after : List Seat) : Type 0 where
   pub begins : IsPrefix main.seen next.seen
   pub lists : List (List ℕ)
-  pub plays : (users : List Machine) → AreUsersFrom pool 1 before users
-      → (afters : List Machine) × (EachShare (PlaysShare pool next.seen) users unit lists afters × AreUsersFrom pool 1 after (with_afters unit afters users))
+  pub plays : (cast : Cast) → AreUsersFrom pool 1 before cast.users
+      → (afters : List Machine) × (EachShare (PlaysShare pool next.seen) cast unit lists afters × AreUsersFrom pool 1 after (cast_after unit afters cast).users)
   pub inside : AllByRecursion (AllByRecursion (IsWithin (length main.seen) (length next.seen))) lists
   pub made : (number : ℕ) → times_made number (all_know next after) ≡ times_made number (all_know main before) + times_among number lists
 
@@ -89,8 +89,8 @@ pub record PlaysUnit (pool : ℕ) (unit : ScriptUnit) (main next : Knowing) (bef
 pub record StopsUnit (fixed : Fixed) (unit : ScriptUnit) (user count : ℕ) (call : Ask) (fault : StepFault) (main next : Knowing) (before after : List Seat) : Type 0 where
   pub begins : IsPrefix main.seen next.seen
   pub lists : List (List ℕ)
-  pub works : (users : List Machine) → AreUsersFrom fixed.pool 1 before users
-      → (afters : List Machine) × EachShare (PlaysOrStops fixed.pool next.seen count user call) users unit lists afters
+  pub works : (cast : Cast) → AreUsersFrom fixed.pool 1 before cast.users
+      → (afters : List Machine) × EachShare (PlaysOrStops fixed.pool next.seen count user call) cast unit lists afters
   pub inside : AllByRecursion (AllByRecursion (IsWithin (length main.seen) (length next.seen))) lists
   pub made : (number : ℕ) → times_made number (all_know next after) ≡ times_made number (all_know main before) + times_among number lists
   pub of_unit : list_any (is_share_of user) unit ≡ true
@@ -185,7 +185,7 @@ PlayIsWhole =
     (program : Program) (captures : Captures) (main : Knowing) (seats : List Seat)
     → HasCaptures program captures → HavePlayed program captures (length (units_of program captures)) main seats
     → flat_map knows_at seats ≡ [] → main.mine ≡ numbered 1 main.seen
-    → (users : List Machine) × (HasPlayed program captures main.seen users × AreUsersFrom program.pool 1 seats users)
+    → (cast : Cast) × (HasPlayed program captures main.seen cast × AreUsersFrom program.pool 1 seats cast.users)
 
 -- and where users stop in a unit, and all leave, so it has stopped there
 abbrev pub StopIsWhole : Type 0

@@ -11,7 +11,7 @@ use Rattle.vale_own.specs.Recorded.{HasRoom, room_by}
 use Rattle.vale_script.specs.Script.{Program}
 use Rattle.vale_replay.specs.Machine.{Machine, new_machine, is_settling}
 use Rattle.vale_replay.specs.Tasks.{Captures}
-use Rattle.vale_replay.specs.Replay.{ScriptUnit, Reaches, entry_of, units_of, user_count, users_of}
+use Rattle.vale_replay.specs.Replay.{Cast, ScriptUnit, Reaches, cast_of, entry_of, units_of, user_count}
 use Rattle.vale_replay.proofs.Legal.{played-legal}
 use Rattle.vale_replay.proofs.Joins.{units-apart, take-apart, apart-at}
 use Rattle.vale_cost.specs.Completeness.{frames_left, calls_left, frames_of, calls_of, taken_by, call_of, taken_at, call_at, frames_of_unit, calls_of_unit, frames_of_units, calls_of_units, IsCosted, FewTasksFit}
@@ -82,22 +82,22 @@ none-left f pool low (suc count) none =
 
 -- ---- a script under way
 
-record AllSpent (program : Program) (captures : Captures) (h : List Entry) (nows : List Machine) : Type 0 where
-  frames : sum_by frames_left nows + frames_of h ≤ frames_of_units (units_of program captures)
-  calls : sum_by calls_left nows + calls_of h ≤ calls_of_units (units_of program captures)
-  up : Each (IsUp (length h)) nows
+record AllSpent (program : Program) (captures : Captures) (h : List Entry) (nows : Cast) : Type 0 where
+  frames : sum_by frames_left nows.users + frames_of h ≤ frames_of_units (units_of program captures)
+  calls : sum_by calls_left nows.users + calls_of h ≤ calls_of_units (units_of program captures)
+  up : Each (IsUp (length h)) nows.users
 
-all-spent : (program : Program) (captures : Captures) (h : List Entry) (nows : List Machine) → Each (Each IsCosted) (units_of program captures) → Reaches program captures h nows
+all-spent : (program : Program) (captures : Captures) (h : List Entry) (nows : Cast) → Each (Each IsCosted) (units_of program captures) → Reaches program captures h nows
     → AllSpent program captures h nows
 all-spent program captures h nows costed r =
     let units = units_of program captures in
     let legal = legal-take program.pool h (played-legal program captures h nows (inr r)) in
-    let before = units-sum program.pool h legal 0 (users_of program) (take r.count units) r.users r.first (up-first program.pool 1 (user_count program)) (take-apart r.count units (units-apart program captures))
+    let before = units-sum program.pool h legal 0 (cast_of program) (take r.count units) r.cast r.first (up-first program.pool 1 (user_count program)) (take-apart r.count units (units-apart program captures))
     (take-each (Each IsCosted) r.count units costed) r.units in
-    let here = unit-sum program.pool h legal r.first (length h) r.users r.unit r.lists r.afters r.forward before.sum.up (apart-at r.count units r.unit (units-apart program captures) r.there)
+    let here = unit-sum program.pool h legal r.first (length h) r.cast r.unit r.lists r.afters r.forward before.sum.up (apart-at r.count units r.unit (units-apart program captures) r.there)
     (each-at (Each IsCosted) units r.count r.unit costed r.there) r.split r.replays in
-    let fs = ap (λ (us : List Machine). sum_by frames_left us) r.nows_are in
-    let ks = ap (λ (us : List Machine). sum_by calls_left us) r.nows_are in
+    let fs = ap (λ (c : Cast). sum_by frames_left c.users) r.nows_are in
+    let ks = ap (λ (c : Cast). sum_by calls_left c.users) r.nows_are in
     let on = r.forward in
     let begun = before.forward in
     let f-join = ranges-join (taken_at h) 0 r.first (length h) begun on in
@@ -115,7 +115,7 @@ all-spent program captures h nows costed r =
     record {
       frames = omega (arith, fs, f-join, f-all, f-cost, f-none, f, hf);
       calls = omega (arith, ks, k-join, k-all, k-cost, k-none, k, hk);
-      up = subst (Each (IsUp (length h))) (sym r.nows_are) here.up;
+      up = subst (λ (c : Cast). Each (IsUp (length h)) c.users) (sym r.nows_are) here.up;
     }
 
 pub few-fit : FewTasksFit
@@ -128,7 +128,7 @@ few-fit program captures region limits h user call fit comes = by (step (standin
     spent = all-spent program captures h comes.nows fit.costed comes.reached
 
     up : IsUp (length h) comes.now
-    up = each-get (IsUp (length h)) comes.nows (user - 1) comes.now spent.up comes.here
+    up = each-get (IsUp (length h)) comes.nows.users (user - 1) comes.now spent.up comes.here
 
     by : (found : Option Outcome) → step (standing_of program.pool h) call ≡ found → HasRoom (record { pool = program.pool; region = region; limits = limits; entries = h }) call
     by None is = subst (room_by (record { pool = program.pool; region = region; limits = limits; entries = h }) call) (sym is) tt
@@ -140,8 +140,8 @@ few-fit program captures region limits h user call fit comes = by (step (standin
         let turn = made-spends program.pool h legal n comes.now up.below.tidy made call up.plain comes.called is after-below.tidy in
         let f = turn.frames in
         let k = turn.calls in
-        let f-now = sum-get frames_left comes.nows (user - 1) comes.now comes.here in
-        let k-now = sum-get calls_left comes.nows (user - 1) comes.now comes.here in
+        let f-now = sum-get frames_left comes.nows.users (user - 1) comes.now comes.here in
+        let k-now = sum-get calls_left comes.nows.users (user - 1) comes.now comes.here in
         let f-all = spent.frames in
         let k-all = spent.calls in
         let entries = fit.entries in

@@ -9,7 +9,7 @@ use Rattle.vale_entry.specs.Legal.{IsLegal}
 use Rattle.vale_entry.proofs.Counting.{count_of, count_of-append}
 use Rattle.std.specs.Prelude.{take}
 use Rattle.vale_replay.specs.Machine.{Machine}
-use Rattle.vale_replay.specs.Replay.{UnitShare, ScriptUnit, EachShare, ReplaysShare, ReplaysUnits, AreSplit, starting, times_among, with_afters}
+use Rattle.vale_replay.specs.Replay.{Cast, UnitShare, ScriptUnit, EachShare, ReplaysShare, ReplaysUnits, AreSplit, starting, times_among, with_afters}
 use Rattle.vale_replay.proofs.Members.{AreApart, IsElsewhere, place_of, get-other, among-cons}
 use Rattle.vale_replay.proofs.Joins.{split-in}
 use Rattle.vale_replay.proofs.Numbers.{range-split}
@@ -72,7 +72,7 @@ agree-set us users i x (share ∷ shares) away agree =
     let other : (i == place_of share) ≡ false = ne_eqb i (place_of share) (λ e. eqb-false (place_of share) i away.0 (sym e)) in
     (get-other us i (place_of share) x other ∙ agree.0, agree-set us users i x shares away.1 agree.1)
 
-module _ (pool : ℕ) (h : List Entry) (legal : (n : ℕ) → IsLegal pool (take n h)) (first last : ℕ) (forward : first ≤ last) (users : List Machine) (up : Each (IsUp first) users) where
+module _ (pool : ℕ) (h : List Entry) (legal : (n : ℕ) → IsLegal pool (take n h)) (first last : ℕ) (forward : first ≤ last) (cast : Cast) (up : Each (IsUp first) cast.users) where
   abbrev Inside : List (List ℕ) → Type 0
   Inside lists = (b : ℕ) → 1 ≤ times_among b lists → (first < b) × (b ≤ last)
 
@@ -97,16 +97,16 @@ module _ (pool : ℕ) (h : List Entry) (legal : (n : ℕ) → IsLegal pool (take
       record { frames_are = omega (arith, f, rf, cf); calls_are = omega (arith, k, rk, ck); up_after = record { below = c.below; plain = c.spends.plain } }
 
   pub shares-sum : (us : List Machine) (shares : ScriptUnit) (lists : List (List ℕ)) (afters : List Machine) → AreApart shares → Each IsCosted shares → Inside lists → Each (IsUp last) us
-      → Agree us users shares → EachShare (ReplaysShare pool h) users shares lists afters
+      → Agree us cast.users shares → EachShare (ReplaysShare pool h) cast shares lists afters
       → UnitSum h us (with_afters shares afters us) (flat lists) (frames_of_unit shares) (calls_of_unit shares) last
   shares-sum us [] [] [] apart costed inside ups agree each = record { frames_are = omega arith; calls_are = omega arith; up = ups }
   shares-sum us (share ∷ shares) (ns ∷ lists) (after ∷ afters) apart costed inside ups agree each =
       let before = each.0.0 in
       let among : (b : ℕ) → times_among b (ns ∷ lists) ≡ count_of b ns + times_among b lists = λ b. among-cons b ns lists in
-      let one = one-share share before ns after costed.0 (each-get (IsUp first) users (place_of share) before up each.0.1)
+      let one = one-share share before ns after costed.0 (each-get (IsUp first) cast.users (place_of share) before up each.0.1)
       (λ b some. inside b (let all = among b in omega (arith, all, some))) each.0.2 in
       let rest = shares-sum (slice_set us (place_of share) after) shares lists afters apart.1 costed.1 (λ b some. inside b (let all = among b in omega (arith, all, some)))
-      (each-set (IsUp last) us (place_of share) after ups one.up_after) (agree-set us users (place_of share) after shares apart.0 agree.1) each.1 in
+      (each-set (IsUp last) us (place_of share) after ups one.up_after) (agree-set us cast.users (place_of share) after shares apart.0 agree.1) each.1 in
       let here = agree.0 ∙ each.0.1 in
       let f-set = sum-set frames_left us (place_of share) after before here in
       let k-set = sum-set calls_left us (place_of share) after before here in
@@ -149,11 +149,11 @@ flat-range f first last lists forward split =
     let same : count_of z (flat lists) ≡ count_of z (range_to first last ++ []) = split z ∙ sym (whole z) in
     omega (arith, alone, same))
 
-pub unit-sum : (pool : ℕ) (h : List Entry) (legal : (n : ℕ) → IsLegal pool (take n h)) (first last : ℕ) (users : List Machine) (unit : ScriptUnit) (lists : List (List ℕ)) (afters : List Machine) → first ≤ last
-    → Each (IsUp first) users → AreApart unit → Each IsCosted unit → AreSplit first last lists → EachShare (ReplaysShare pool h) users unit lists afters
-    → UnitSum h users (with_afters unit afters users) (range_to first last) (frames_of_unit unit) (calls_of_unit unit) last
-unit-sum pool h legal first last users unit lists afters forward up apart costed split each =
-    let all = shares-sum pool h legal first last forward users up users unit lists afters apart costed (λ b some. split-in first last lists b split some) (all-up first last users forward up) (agree-same users unit) each in
+pub unit-sum : (pool : ℕ) (h : List Entry) (legal : (n : ℕ) → IsLegal pool (take n h)) (first last : ℕ) (cast : Cast) (unit : ScriptUnit) (lists : List (List ℕ)) (afters : List Machine) → first ≤ last
+    → Each (IsUp first) cast.users → AreApart unit → Each IsCosted unit → AreSplit first last lists → EachShare (ReplaysShare pool h) cast unit lists afters
+    → UnitSum h cast.users (with_afters unit afters cast.users) (range_to first last) (frames_of_unit unit) (calls_of_unit unit) last
+unit-sum pool h legal first last cast unit lists afters forward up apart costed split each =
+    let all = shares-sum pool h legal first last forward cast up cast.users unit lists afters apart costed (λ b some. split-in first last lists b split some) (all-up first last cast.users forward up) (agree-same cast.users unit) each in
     let f-same = flat-range (taken_at h) first last lists forward split in
     let k-same = flat-range (call_at h) first last lists forward split in
     let f = all.frames_are in
@@ -178,29 +178,29 @@ pub record UnitsSum (h : List Entry) (users next : List Machine) (first last : �
   pub forward : first ≤ last
   pub sum : UnitSum h users next (range_to first last) (frames_of_units units) (calls_of_units units) last
 
-pub units-sum : (pool : ℕ) (h : List Entry) (legal : (n : ℕ) → IsLegal pool (take n h)) (first : ℕ) (users : List Machine) (units : List ScriptUnit) (next : List Machine) (last : ℕ)
-    → Each (IsUp first) users → Each AreApart units → Each (Each IsCosted) units → ReplaysUnits pool h users first units next last → UnitsSum h users next first last units
-units-sum pool h legal first users [] next last up apart costed r =
+pub units-sum : (pool : ℕ) (h : List Entry) (legal : (n : ℕ) → IsLegal pool (take n h)) (first : ℕ) (cast : Cast) (units : List ScriptUnit) (next : Cast) (last : ℕ)
+    → Each (IsUp first) cast.users → Each AreApart units → Each (Each IsCosted) units → ReplaysUnits pool h cast first units next last → UnitsSum h cast.users next.users first last units
+units-sum pool h legal first cast [] next last up apart costed r =
     let none = empty-range first last r.1 in
     let f = ap (λ (ns : List ℕ). sum_by (taken_at h) ns) none in
     let k = ap (λ (ns : List ℕ). sum_by (call_at h) ns) none in
-    let fs = ap (λ (us : List Machine). sum_by frames_left us) r.0 in
-    let ks = ap (λ (us : List Machine). sum_by calls_left us) r.0 in
+    let fs = ap (λ (c : Cast). sum_by frames_left c.users) r.0 in
+    let ks = ap (λ (c : Cast). sum_by calls_left c.users) r.0 in
     record {
       forward = (let e = r.1 in omega (arith, e));
       sum = record {
         frames_are = omega (arith, f, fs);
         calls_are = omega (arith, k, ks);
-        up = subst (λ (n : ℕ). Each (IsUp n) next) (sym r.1) (subst (Each (IsUp first)) (sym r.0) up);
+        up = subst (λ (n : ℕ). Each (IsUp n) next.users) (sym r.1) (subst (λ (c : Cast). Each (IsUp first) c.users) (sym r.0) up);
       };
     }
-units-sum pool h legal first users (unit ∷ units) next last up apart costed r =
+units-sum pool h legal first cast (unit ∷ units) next last up apart costed r =
     let between = r.0 in
     let number = r.1.0 in
     let one = r.1.1.0 in
-    let here = unit-sum pool h legal first number users unit one.lists one.afters one.forward up apart.0 costed.0 one.split one.replays in
-    let there : UnitSum h users between (range_to first number) (frames_of_unit unit) (calls_of_unit unit) number =
-    subst (λ (us : List Machine). UnitSum h users us (range_to first number) (frames_of_unit unit) (calls_of_unit unit) number) (sym one.others) here in
+    let here = unit-sum pool h legal first number cast unit one.lists one.afters one.forward up apart.0 costed.0 one.split one.replays in
+    let there : UnitSum h cast.users between.users (range_to first number) (frames_of_unit unit) (calls_of_unit unit) number =
+    subst (λ (c : Cast). UnitSum h cast.users c.users (range_to first number) (frames_of_unit unit) (calls_of_unit unit) number) (sym one.others) here in
     let rest = units-sum pool h legal number between units next last there.up apart.1 costed.1 r.1.1.1 in
     let on = rest.forward in
     let begun = one.forward in

@@ -29,7 +29,7 @@ use Rattle.vale_own.proofs.SideFields.{refusals-fit}
 use Rattle.vale_own.proofs.SideSyncing.{transmit-asked, receive-asked}
 use Rattle.vale_replay.specs.Tasks.{Task, Arrive, OpenPort, PutFrame, SendFrames, TakeFrames, ChangeOwn, SaveFrames, WatchPort, ReadCounts, ShutPort, FinishPort, Depart, EndLine}
 use Rattle.vale_replay.specs.Machine.{Machine, call_of_task, call_of_tasks, settling_call, owed_lot, next_offer, done_call, grant_call, next_call, put_call, send_call}
-use Rattle.vale_replay.specs.Replay.{UnitShare, EachShare, Reaches, starting, units_of, with_afters}
+use Rattle.vale_replay.specs.Replay.{Cast, UnitShare, EachShare, Reaches, starting, units_of, with_afters}
 use Rattle.vale_replay.specs.MayCall.{HasFieldsIf, PortFits, FirstFits, LeavesWithout, MayCall, CallsMayBeMade}
 use Rattle.vale_replay.proofs.Turns.{some-same}
 use Rattle.vale_replay.proofs.Members.{HasShare, has-share, have-same}
@@ -223,18 +223,18 @@ calls-may program captures h user call size comes fit = by_session comes.now.ses
     legal : IsLegal program.pool h
     legal = subst (IsLegal program.pool) (take_all (length h) h (omega arith)) (legal-at program captures h comes.nows (inr comes.reached) (length h) (omega arith))
 
-    each : EachShare (KeepsBehind program.pool h) r.users r.unit r.lists r.afters
+    each : EachShare (KeepsBehind program.pool h) r.cast r.unit r.lists r.afters
     each = reached-each program captures h comes.nows comes.reached (KeepsBehind program.pool h)
         (λ share before ns after on.
         subst (λ (es : List Entry). KeepsSide program.pool (standing_of program.pool es) after) (take_all (length h) h (omega arith))
         (turns-side program.pool h comes.reached.first (length h) (starting share before) ns after (legal-at program captures h comes.nows (inr comes.reached)) (omega arith) on.rise comes.reached.forward on.foreign on.starts on.replays.turns))
 
-    who : HasShare (KeepsBehind program.pool h) r.afters (with_afters r.unit r.afters r.users) user
-    who = has-share (KeepsBehind program.pool h) comes.reached.users comes.reached.users comes.reached.unit comes.reached.lists comes.reached.afters user
-        (apart-at comes.reached.count (units_of program captures) comes.reached.unit (units-apart program captures) comes.reached.there) each (have-same comes.reached.users comes.reached.unit) comes.of_unit
+    who : HasShare (KeepsBehind program.pool h) r.afters (with_afters r.unit r.afters r.cast.users) user
+    who = has-share (KeepsBehind program.pool h) comes.reached.cast comes.reached.cast.users comes.reached.unit comes.reached.lists comes.reached.afters user
+        (apart-at comes.reached.count (units_of program captures) comes.reached.unit (units-apart program captures) comes.reached.there) each (have-same comes.reached.cast.users comes.reached.unit) comes.of_unit
 
     same : who.now ≡ comes.now
-    same = some-same who.now comes.now (sym who.here ∙ ap (λ (us : List Machine). slice_get us (user - 1)) (sym comes.reached.nows_are) ∙ comes.here)
+    same = some-same who.now comes.now (sym who.here ∙ ap (λ (c : Cast). slice_get c.users (user - 1)) (sym comes.reached.nows_are) ∙ comes.here)
 
     keeps : KeepsSide program.pool (standing_of program.pool h) comes.now
     keeps = subst (KeepsSide program.pool (standing_of program.pool h)) same who.goes

@@ -20,7 +20,7 @@ use Rattle.vale_own.proofs.Coming.{there-come}
 use Rattle.vale_script.specs.Script.{Program}
 use Rattle.vale_replay.specs.Tasks.{Captures, Task, Arrive, Depart}
 use Rattle.vale_replay.specs.Machine.{Machine, settling_call, owed_lot, next_offer, done_call, grant_call, enter_call, call_of_tasks, next_call, with_tasks, answered, is_settling}
-use Rattle.vale_replay.specs.Replay.{UnitShare, ScriptUnit, TakesTurn, TakesTurns, EachShare, ReplaysShare, ReplaysUnit, ReplaysUnits, AreSplit, HasPlayed, Reaches, IsUnderWay, standing_before, starting, units_of, users_of, with_afters}
+use Rattle.vale_replay.specs.Replay.{Cast, UnitShare, ScriptUnit, TakesTurn, TakesTurns, EachShare, ReplaysShare, ReplaysUnit, ReplaysUnits, AreSplit, HasPlayed, Reaches, IsUnderWay, cast_of, standing_before, starting, units_of, users_of, with_afters}
 use Rattle.vale_replay.proofs.Turns.{some-same}
 use Rattle.vale_replay.proofs.Sessions.{rest-same, starting-same}
 use Rattle.vale_replay.proofs.Legal.{played-legal}
@@ -182,23 +182,23 @@ after-there (share ∷ shares) (a ∷ afters) users i old here =
     let set = set-there users (share.user - 1) i a old here in
     after-there shares afters (slice_set users (share.user - 1) a) i set.0 set.1
 
-unit-session : (pool : ℕ) (h : List Entry) (users : List Machine) (first : ℕ) (unit : ScriptUnit) (lists : List (List ℕ)) (afters : List Machine) (last x : ℕ)
-    → AreApart unit → EachShare (ReplaysShare pool h) users unit lists afters → AreSplit first last lists
-    → NoneLeaves h x → Comes h x → (x ≤ first → HasSession users x) → x ≤ last → HasSession (with_afters unit afters users) x
-unit-session pool h users first unit lists afters last x apart each split none comes old within = by_first (cases_lt first x)
+unit-session : (pool : ℕ) (h : List Entry) (cast : Cast) (first : ℕ) (unit : ScriptUnit) (lists : List (List ℕ)) (afters : List Machine) (last x : ℕ)
+    → AreApart unit → EachShare (ReplaysShare pool h) cast unit lists afters → AreSplit first last lists
+    → NoneLeaves h x → Comes h x → (x ≤ first → HasSession cast.users x) → x ≤ last → HasSession (with_afters unit afters cast.users) x
+unit-session pool h cast first unit lists afters last x apart each split none comes old within = by_first (cases_lt first x)
   where
-    has : (i : ℕ) (before : Machine) → slice_get users i ≡ Some before
+    has : (i : ℕ) (before : Machine) → slice_get cast.users i ≡ Some before
         → ((before.session ≡ Some (record { 0 = x })) ⊎ (1 ≤ count_of x (numbers_at i unit lists)))
-        → HasSession (with_afters unit afters users) x
-    has i before here some = by_member (member (ReplaysShare pool h) users users unit lists afters i now apart each refl at) some
+        → HasSession (with_afters unit afters cast.users) x
+    has i before here some = by_member (member (ReplaysShare pool h) cast cast.users unit lists afters i now apart each refl at) some
       where
-        there : (now : Machine) × (slice_get (with_afters unit afters users) i ≡ Some now)
-        there = after-there unit afters users i before here
+        there : (now : Machine) × (slice_get (with_afters unit afters cast.users) i ≡ Some now)
+        there = after-there unit afters cast.users i before here
 
         now : Machine
         now = there.0
 
-        at : slice_get (with_afters unit afters users) i ≡ Some now
+        at : slice_get (with_afters unit afters cast.users) i ≡ Some now
         at = there.1
 
         by_how : (m : Machine) → m ≡ before → ((numbers_at i unit lists ≡ []) × (now ≡ m)) ⊎ ((share : UnitShare) × ReplaysShare pool h share m (numbers_at i unit lists) now)
@@ -211,26 +211,26 @@ unit-session pool h users first unit lists afters last x apart each split none c
             turns-stay pool h (starting goes.0 m) (numbers_at i unit lists) now (record { 0 = x }) none goes.1.turns ((starting-same goes.0 m).session ∙ ap (λ (u : Machine). u.session) same ∙ is)
         by_how m same (inr goes) (inr more) = turns-come pool h (starting goes.0 m) (numbers_at i unit lists) now x none comes goes.1.turns more
 
-        by_member : Member (ReplaysShare pool h) users unit lists i now
-            → ((before.session ≡ Some (record { 0 = x })) ⊎ (1 ≤ count_of x (numbers_at i unit lists))) → HasSession (with_afters unit afters users) x
+        by_member : Member (ReplaysShare pool h) cast unit lists i now
+            → ((before.session ≡ Some (record { 0 = x })) ⊎ (1 ≤ count_of x (numbers_at i unit lists))) → HasSession (with_afters unit afters cast.users) x
         by_member m some = record { place = i; user = now; here = at; is = by_how m.before (some-same m.before before (sym m.here ∙ here)) m.how some }
 
-    by_first : (first < x) ⊎ (x ≤ first) → HasSession (with_afters unit afters users) x
+    by_first : (first < x) ⊎ (x ≤ first) → HasSession (with_afters unit afters cast.users) x
     by_first (inl later) =
         let once = split-has first last lists x split later within in
-        let who = has-member (ReplaysShare pool h) users unit lists afters x apart each (omega (arith, once)) in
+        let who = has-member (ReplaysShare pool h) cast unit lists afters x apart each (omega (arith, once)) in
         has who.place who.before who.here (inr who.some)
     by_first (inr early) = let was = old early in has was.place was.user was.here (inl was.is)
 
-units-session : (pool : ℕ) (h : List Entry) (users : List Machine) (first : ℕ) (units : List ScriptUnit) (next : List Machine) (last x : ℕ)
-    → AllByRecursion AreApart units → ReplaysUnits pool h users first units next last
-    → NoneLeaves h x → Comes h x → (x ≤ first → HasSession users x) → x ≤ last → HasSession next x
-units-session pool h users first [] next last x apart r none comes old within =
-    subst (λ (us : List Machine). HasSession us x) (sym r.0) (old (subst (λ (k : ℕ). x ≤ k) r.1 within))
-units-session pool h users first (unit ∷ units) next last x apart r none comes old within =
-    let one : ReplaysUnit pool h users first unit r.0 r.1.0 = r.1.1.0 in
+units-session : (pool : ℕ) (h : List Entry) (cast : Cast) (first : ℕ) (units : List ScriptUnit) (next : Cast) (last x : ℕ)
+    → AllByRecursion AreApart units → ReplaysUnits pool h cast first units next last
+    → NoneLeaves h x → Comes h x → (x ≤ first → HasSession cast.users x) → x ≤ last → HasSession next.users x
+units-session pool h cast first [] next last x apart r none comes old within =
+    subst (λ (c : Cast). HasSession c.users x) (sym r.0) (old (subst (λ (k : ℕ). x ≤ k) r.1 within))
+units-session pool h cast first (unit ∷ units) next last x apart r none comes old within =
+    let one : ReplaysUnit pool h cast first unit r.0 r.1.0 = r.1.1.0 in
     units-session pool h r.0 r.1.0 units next last x apart.1 r.1.1.1 none comes
-    (λ below. subst (λ (us : List Machine). HasSession us x) (sym one.others) (unit-session pool h users first unit one.lists one.afters r.1.0 x apart.0 one.replays one.split none comes old below)) within
+    (λ below. subst (λ (c : Cast). HasSession c.users x) (sym one.others) (unit-session pool h cast first unit one.lists one.afters r.1.0 x apart.0 one.replays one.split none comes old below)) within
 
 -- A session that is there is a user's.
 
@@ -272,8 +272,8 @@ come-within : (h : List Entry) (x : ℕ) → has_come h x ≡ true → (0 < x) �
 come-within h zero e = absurd cc
 come-within h (suc n) e = (omega arith, met-within h n e)
 
-pub session-of-user : (program : Program) (captures : Captures) (h : List Entry) (nows : List Machine) (x : ℕ)
-    → IsUnderWay program captures h nows → is_session (world_of program.pool h) x ≡ true → HasSession nows x
+pub session-of-user : (program : Program) (captures : Captures) (h : List Entry) (nows : Cast) (x : ℕ)
+    → IsUnderWay program captures h nows → is_session (world_of program.pool h) x ≡ true → HasSession nows.users x
 session-of-user program captures h nows x way there = by_way way
   where
     known : (has_come h x ≡ true) × (has_left h x ≡ false)
@@ -288,10 +288,10 @@ session-of-user program captures h nows x way there = by_way way
     first : x ≤ 0 → HasSession (users_of program) x
     first low = let up = bounds.0 in absurd (omega (arith, low, up))
 
-    by_way : HasPlayed program captures h nows ⊎ Reaches program captures h nows → HasSession nows x
+    by_way : HasPlayed program captures h nows ⊎ Reaches program captures h nows → HasSession nows.users x
     by_way (inl p) =
-        units-session program.pool h (users_of program) 0 (units_of program captures) nows (length h) x (units-apart program captures) p.units none (come-at h x known.0) first bounds.1
+        units-session program.pool h (cast_of program) 0 (units_of program captures) nows (length h) x (units-apart program captures) p.units none (come-at h x known.0) first bounds.1
     by_way (inr r) =
-        subst (λ (us : List Machine). HasSession us x) (sym r.nows_are)
-        (unit-session program.pool h r.users r.first r.unit r.lists r.afters (length h) x (apart-at r.count (units_of program captures) r.unit (units-apart program captures) r.there) r.replays r.split none (come-at h x known.0)
-        (λ below. units-session program.pool h (users_of program) 0 (take r.count (units_of program captures)) r.users r.first x (take-apart r.count (units_of program captures) (units-apart program captures)) r.units none (come-at h x known.0) first below) bounds.1)
+        subst (λ (c : Cast). HasSession c.users x) (sym r.nows_are)
+        (unit-session program.pool h r.cast r.first r.unit r.lists r.afters (length h) x (apart-at r.count (units_of program captures) r.unit (units-apart program captures) r.there) r.replays r.split none (come-at h x known.0)
+        (λ below. units-session program.pool h (cast_of program) 0 (take r.count (units_of program captures)) r.cast r.first x (take-apart r.count (units_of program captures) (units-apart program captures)) r.units none (come-at h x known.0) first below) bounds.1)

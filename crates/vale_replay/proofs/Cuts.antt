@@ -8,7 +8,7 @@ use Rattle.vale_entry.specs.declared.entry.Entry.{Entry}
 use Rattle.vale_entry.specs.Laws.{Rise}
 use Rattle.vale_entry.proofs.Counting.{count_of, count_of-cons}
 use Rattle.vale_replay.specs.Machine.{Machine}
-use Rattle.vale_replay.specs.Replay.{UnitShare, ScriptUnit, EachShare, ReplaysUser, ReplaysShare, ReplaysUnit, ReplaysUnits, AreSplit, NeedsNoCall, TakesTurn, TakesTurns, last_of, last_behind, starting, times_among}
+use Rattle.vale_replay.specs.Replay.{Cast, UnitShare, ScriptUnit, EachShare, ReplaysUser, ReplaysShare, ReplaysUnit, ReplaysUnits, AreSplit, NeedsNoCall, TakesTurn, TakesTurns, last_behind, last_of, starting, times_among}
 use Rattle.vale_replay.proofs.Numbers.{rise-low, rise-above, rise-last}
 use Rattle.vale_replay.proofs.Turns.{reads-to-last, length-take}
 use Rattle.vale_replay.proofs.Members.{among-cons}
@@ -109,31 +109,31 @@ user-cut pool h count before ns after r =
     }
 
 -- the users of a unit, each with its numbers up to one
-pub record CutShares (S : UnitShare → Machine → List ℕ → Machine → Type 0) (users : List Machine) (unit : ScriptUnit) (count : ℕ) (lists : List (List ℕ)) : Type 0 where
+pub record CutShares (S : UnitShare → Machine → List ℕ → Machine → Type 0) (cast : Cast) (unit : ScriptUnit) (count : ℕ) (lists : List (List ℕ)) : Type 0 where
   pub nows : List Machine
-  pub each : EachShare S users unit (map (up_to count) lists) nows
+  pub each : EachShare S cast unit (map (up_to count) lists) nows
 
-pub shares-cut : (R S : UnitShare → Machine → List ℕ → Machine → Type 0) (users : List Machine) (unit : ScriptUnit) (count : ℕ) (lists : List (List ℕ)) (afters : List Machine)
+pub shares-cut : (R S : UnitShare → Machine → List ℕ → Machine → Type 0) (cast : Cast) (unit : ScriptUnit) (count : ℕ) (lists : List (List ℕ)) (afters : List Machine)
     → ((share : UnitShare) (before : Machine) (ns : List ℕ) (after : Machine) → R share before ns after → (now : Machine) × S share before (up_to count ns) now)
-    → EachShare R users unit lists afters → CutShares S users unit count lists
-shares-cut R S users [] count [] [] f each = record { nows = []; each = tt }
-shares-cut R S users (share ∷ shares) count (ns ∷ lists) (a ∷ afters) f each =
+    → EachShare R cast unit lists afters → CutShares S cast unit count lists
+shares-cut R S cast [] count [] [] f each = record { nows = []; each = tt }
+shares-cut R S cast (share ∷ shares) count (ns ∷ lists) (a ∷ afters) f each =
     let one = f share each.0.0 ns a each.0.2 in
-    let rest = shares-cut R S users shares count lists afters f each.1 in
+    let rest = shares-cut R S cast shares count lists afters f each.1 in
     record { nows = one.0 ∷ rest.nows; each = ((each.0.0, each.0.1, one.1), rest.each) }
-shares-cut R S users _ count _ _ f each = absurd each
+shares-cut R S cast _ count _ _ f each = absurd each
 
 -- how often a number stands in the cut lists
-among-low : (pool : ℕ) (h : List Entry) (users : List Machine) (unit : ScriptUnit) (count : ℕ) (lists : List (List ℕ)) (afters : List Machine) (b : ℕ)
-    → EachShare (ReplaysShare pool h) users unit lists afters → b ≤ count → times_among b (map (up_to count) lists) ≡ times_among b lists
-among-low pool h users [] count [] [] b each within = refl
-among-low pool h users (share ∷ shares) count (ns ∷ lists) (a ∷ afters) b each within =
+among-low : (pool : ℕ) (h : List Entry) (cast : Cast) (unit : ScriptUnit) (count : ℕ) (lists : List (List ℕ)) (afters : List Machine) (b : ℕ)
+    → EachShare (ReplaysShare pool h) cast unit lists afters → b ≤ count → times_among b (map (up_to count) lists) ≡ times_among b lists
+among-low pool h cast [] count [] [] b each within = refl
+among-low pool h cast (share ∷ shares) count (ns ∷ lists) (a ∷ afters) b each within =
     let one = up_to-low count b 0 ns (length h) each.0.2.rise within in
-    let rest = among-low pool h users shares count lists afters b each.1 within in
+    let rest = among-low pool h cast shares count lists afters b each.1 within in
     let cut = among-cons b (up_to count ns) (map (up_to count) lists) in
     let all = among-cons b ns lists in
     omega (arith, one, rest, cut, all)
-among-low pool h users _ count _ _ b each within = absurd each
+among-low pool h cast _ count _ _ b each within = absurd each
 
 among-high : (count b : ℕ) (lists : List (List ℕ)) → count < b
     → times_among b (map (up_to count) lists) ≡ 0
@@ -144,22 +144,22 @@ among-high count b (ns ∷ lists) past =
     let cut = among-cons b (up_to count ns) (map (up_to count) lists) in
     omega (arith, one, rest, cut)
 
-pub split-cut : (pool : ℕ) (h : List Entry) (users : List Machine) (unit : ScriptUnit) (count : ℕ) (lists : List (List ℕ)) (afters : List Machine) (first last : ℕ)
-    → EachShare (ReplaysShare pool h) users unit lists afters → first ≤ count → count ≤ last → AreSplit first last lists → AreSplit first count (map (up_to count) lists)
-split-cut pool h users unit count lists afters first last each up within split =
+pub split-cut : (pool : ℕ) (h : List Entry) (cast : Cast) (unit : ScriptUnit) (count : ℕ) (lists : List (List ℕ)) (afters : List Machine) (first last : ℕ)
+    → EachShare (ReplaysShare pool h) cast unit lists afters → first ≤ count → count ≤ last → AreSplit first last lists → AreSplit first count (map (up_to count) lists)
+split-cut pool h cast unit count lists afters first last each up within split =
     split-from first count (map (up_to count) lists)
-    (λ b low high. among-low pool h users unit count lists afters b each high ∙ split-has first last lists b split low (omega (arith, high, within)))
-    (λ b below. among-low pool h users unit count lists afters b each (omega (arith, below, up)) ∙ split-below first last lists b split below)
+    (λ b low high. among-low pool h cast unit count lists afters b each high ∙ split-has first last lists b split low (omega (arith, high, within)))
+    (λ b below. among-low pool h cast unit count lists afters b each (omega (arith, below, up)) ∙ split-below first last lists b split below)
     (λ b past. among-high count b lists past)
 
 -- Units whose entries end before the cut.
 
-shares-read : (pool : ℕ) (h : List Entry) (users : List Machine) (unit : ScriptUnit) (count : ℕ) (lists : List (List ℕ)) (afters : List Machine)
-    → ((b : ℕ) → 1 ≤ times_among b lists → b ≤ count) → EachShare (ReplaysShare pool h) users unit lists afters
-    → EachShare (ReplaysShare pool (take count h)) users unit lists afters
-shares-read pool h users [] count [] [] within each = tt
-shares-read pool h users (share ∷ shares) count (ns ∷ lists) (a ∷ afters) within each =
-    ((each.0.0, each.0.1, (reads-to-last pool h count (starting share each.0.0) ns a (last ns front)).0 each.0.2), shares-read pool h users shares count lists afters back each.1)
+shares-read : (pool : ℕ) (h : List Entry) (cast : Cast) (unit : ScriptUnit) (count : ℕ) (lists : List (List ℕ)) (afters : List Machine)
+    → ((b : ℕ) → 1 ≤ times_among b lists → b ≤ count) → EachShare (ReplaysShare pool h) cast unit lists afters
+    → EachShare (ReplaysShare pool (take count h)) cast unit lists afters
+shares-read pool h cast [] count [] [] within each = tt
+shares-read pool h cast (share ∷ shares) count (ns ∷ lists) (a ∷ afters) within each =
+    ((each.0.0, each.0.1, (reads-to-last pool h count (starting share each.0.0) ns a (last ns front)).0 each.0.2), shares-read pool h cast shares count lists afters back each.1)
   where
     front : (b : ℕ) → 1 ≤ count_of b ns → b ≤ count
     front b some = let all = among-cons b ns lists in within b (omega (arith, all, some))
@@ -170,33 +170,33 @@ shares-read pool h users (share ∷ shares) count (ns ∷ lists) (a ∷ afters) 
     last : (ms : List ℕ) → ((b : ℕ) → 1 ≤ count_of b ms → b ≤ count) → last_of ms ≤ count
     last [] f = omega arith
     last (m ∷ ms) f = f (last_behind m ms) (last-counted m ms)
-shares-read pool h users _ count _ _ within each = absurd each
+shares-read pool h cast _ count _ _ within each = absurd each
 
-unit-cut : (pool : ℕ) (h : List Entry) (users : List Machine) (first : ℕ) (unit : ScriptUnit) (next : List Machine) (last count : ℕ)
-    → last ≤ count → ReplaysUnit pool h users first unit next last → ReplaysUnit pool (take count h) users first unit next last
-unit-cut pool h users first unit next last count up r = record {
+unit-cut : (pool : ℕ) (h : List Entry) (cast : Cast) (first : ℕ) (unit : ScriptUnit) (next : Cast) (last count : ℕ)
+    → last ≤ count → ReplaysUnit pool h cast first unit next last → ReplaysUnit pool (take count h) cast first unit next last
+unit-cut pool h cast first unit next last count up r = record {
   lists = r.lists;
   afters = r.afters;
   forward = r.forward;
   within = length-take h count last up r.within;
   split = r.split;
-  replays = shares-read pool h users unit count r.lists r.afters (λ b some. let in' = (split-in first last r.lists b r.split some).1 in omega (arith, in', up)) r.replays;
+  replays = shares-read pool h cast unit count r.lists r.afters (λ b some. let in' = (split-in first last r.lists b r.split some).1 in omega (arith, in', up)) r.replays;
   ended = subst (λ (es : List Entry). AllByRecursion (NeedsNoCall pool es) r.afters) (sym (take-take last count h up)) r.ended;
   others = r.others;
 }
 
-pub replayed-forward : (pool : ℕ) (h : List Entry) (users : List Machine) (first : ℕ) (units : List ScriptUnit) (next : List Machine) (last : ℕ)
-    → ReplaysUnits pool h users first units next last → first ≤ last
-replayed-forward pool h users first [] next last r = let is : last ≡ first = r.1 in omega (arith, is)
-replayed-forward pool h users first (unit ∷ units) next last r =
+pub replayed-forward : (pool : ℕ) (h : List Entry) (cast : Cast) (first : ℕ) (units : List ScriptUnit) (next : Cast) (last : ℕ)
+    → ReplaysUnits pool h cast first units next last → first ≤ last
+replayed-forward pool h cast first [] next last r = let is : last ≡ first = r.1 in omega (arith, is)
+replayed-forward pool h cast first (unit ∷ units) next last r =
     let up = r.1.1.0.forward in
     let rest = replayed-forward pool h r.0 r.1.0 units next last r.1.1.1 in
     omega (arith, up, rest)
 
 -- units are read in the history up to their last entry
-pub units-cut : (pool : ℕ) (h : List Entry) (users : List Machine) (first : ℕ) (units : List ScriptUnit) (next : List Machine) (last count : ℕ)
-    → last ≤ count → ReplaysUnits pool h users first units next last → ReplaysUnits pool (take count h) users first units next last
-units-cut pool h users first [] next last count up r = r
-units-cut pool h users first (unit ∷ units) next last count up r =
+pub units-cut : (pool : ℕ) (h : List Entry) (cast : Cast) (first : ℕ) (units : List ScriptUnit) (next : Cast) (last count : ℕ)
+    → last ≤ count → ReplaysUnits pool h cast first units next last → ReplaysUnits pool (take count h) cast first units next last
+units-cut pool h cast first [] next last count up r = r
+units-cut pool h cast first (unit ∷ units) next last count up r =
     let forward = replayed-forward pool h r.0 r.1.0 units next last r.1.1.1 in
-    (r.0, (r.1.0, (unit-cut pool h users first unit r.0 r.1.0 count (omega (arith, forward, up)) r.1.1.0, units-cut pool h r.0 r.1.0 units next last count up r.1.1.1)))
+    (r.0, (r.1.0, (unit-cut pool h cast first unit r.0 r.1.0 count (omega (arith, forward, up)) r.1.1.0, units-cut pool h r.0 r.1.0 units next last count up r.1.1.1)))

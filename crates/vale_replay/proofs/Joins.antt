@@ -19,7 +19,7 @@ use Rattle.vale_script.specs.declared.script.Unit.TheVariants as parts
 use Rattle.vale_script.specs.Script.{Program}
 use Rattle.vale_replay.specs.Tasks.{Captures, records_of}
 use Rattle.vale_replay.specs.Machine.{Machine, new_machine, settling_call, call_of_tasks}
-use Rattle.vale_replay.specs.Replay.{UnitShare, ScriptUnit, EachShare, PlaysUser, ReplaysShare, AreSplit, NeedsNoCall, ReplaysUnit, ReplaysUnits, last_behind, starting, times_among, share_of, shares_of, acts_of, has_line, closing_unit, user_count, units_of, users_of, with_afters}
+use Rattle.vale_replay.specs.Replay.{Cast, UnitShare, ScriptUnit, EachShare, PlaysUser, ReplaysShare, AreSplit, NeedsNoCall, ReplaysUnit, ReplaysUnits, acts_of, cast_after, cast_of, closing_unit, has_line, last_behind, share_of, shares_of, starting, times_among, units_of, user_count, with_afters}
 use Rattle.vale_replay.specs.Joined.{PlaysShare, IsWithin, TurnsOfUnit, TurnsOfUnits, lists_in, JoinsUsers}
 use Rattle.vale_replay.proofs.Numbers.{rise-cut, rise-past, rise-wider, range-rises}
 use Rattle.vale_replay.proofs.Turns.{some-same}
@@ -97,41 +97,41 @@ split-from first last lists once below above b = by_low (cases_lt first b)
 
 -- The users between units: their sessions have begun, and are different ones.
 
-pub record Cast (first : ℕ) (users : List Machine) : Type 0 where
-  pub begun : (i : ℕ) (u : Machine) (x : SessionId) → slice_get users i ≡ Some u
+pub record HaveCome (first : ℕ) (cast : Cast) : Type 0 where
+  pub begun : (i : ℕ) (u : Machine) (x : SessionId) → slice_get cast.users i ≡ Some u
       → u.session ≡ Some x → x.0 ≤ first
-  pub one : (i j : ℕ) (u v : Machine) (x : SessionId) → slice_get users i ≡ Some u
-      → slice_get users j ≡ Some v → u.session ≡ Some x → v.session ≡ Some x → i ≡ j
-  pub numbers : (i : ℕ) (u : Machine) → slice_get users i ≡ Some u → u.number ≡ i + 1
+  pub one : (i j : ℕ) (u v : Machine) (x : SessionId) → slice_get cast.users i ≡ Some u
+      → slice_get cast.users j ≡ Some v → u.session ≡ Some x → v.session ≡ Some x → i ≡ j
+  pub numbers : (i : ℕ) (u : Machine) → slice_get cast.users i ≡ Some u → u.number ≡ i + 1
 
--- so no session is that of two users, by what they had before a unit and the numbers that they
+-- so no session is that of two cast, by what they had before a unit and the numbers that they
 -- have in it
-pub sessions-apart : (users : List Machine) (first : ℕ) (unit : ScriptUnit) (lists : List (List ℕ)) (last i j : ℕ) (u v : Machine) (x : SessionId)
-    → Cast first users → AreSplit first last lists → (i == j) ≡ false
-    → slice_get users i ≡ Some u → slice_get users j ≡ Some v → IsOwnSession u.session (numbers_at i unit lists) x → IsOwnSession v.session (numbers_at j unit lists) x → ⊥
-sessions-apart users first unit lists last i j u v x cast split e at at' (inl one) (inl two) =
-    let same : (i == j) ≡ true = eq-eqb i j (cast.one i j u v x at at' one two) in
+pub sessions-apart : (cast : Cast) (first : ℕ) (unit : ScriptUnit) (lists : List (List ℕ)) (last i j : ℕ) (u v : Machine) (x : SessionId)
+    → HaveCome first cast → AreSplit first last lists → (i == j) ≡ false
+    → slice_get cast.users i ≡ Some u → slice_get cast.users j ≡ Some v → IsOwnSession u.session (numbers_at i unit lists) x → IsOwnSession v.session (numbers_at j unit lists) x → ⊥
+sessions-apart cast first unit lists last i j u v x come split e at at' (inl one) (inl two) =
+    let same : (i == j) ≡ true = eq-eqb i j (come.one i j u v x at at' one two) in
     let clash : true ≡ false = sym same ∙ e in
     absurd cc
-sessions-apart users first unit lists last i j u v x cast split e at at' (inl one) (inr two) =
-    let low = cast.begun i u x at one in
+sessions-apart cast first unit lists last i j u v x come split e at at' (inl one) (inr two) =
+    let low = come.begun i u x at one in
     let few = few-one x.0 j unit lists in
     let in' = (split-in first last lists x.0 split (omega (arith, few, two))).0 in
     absurd (omega (arith, low, in'))
-sessions-apart users first unit lists last i j u v x cast split e at at' (inr one) (inl two) =
-    let low = cast.begun j v x at' two in
+sessions-apart cast first unit lists last i j u v x come split e at at' (inr one) (inl two) =
+    let low = come.begun j v x at' two in
     let few = few-one x.0 i unit lists in
     let in' = (split-in first last lists x.0 split (omega (arith, few, one))).0 in
     absurd (omega (arith, low, in'))
-sessions-apart users first unit lists last i j u v x cast split e at at' (inr one) (inr two) =
+sessions-apart cast first unit lists last i j u v x come split e at at' (inr one) (inr two) =
     let few = few-two x.0 i j unit lists e in
     let most = split-most first last lists x.0 split in
     absurd (omega (arith, few, most, one, two))
 
 -- the session of a user behind the unit is one of its own
-member-session : (pool : ℕ) (h : List Entry) (users : List Machine) (unit : ScriptUnit) (lists : List (List ℕ)) (i : ℕ) (u : Machine) (x : SessionId) (m : Member (ReplaysShare pool h) users unit lists i u)
+member-session : (pool : ℕ) (h : List Entry) (cast : Cast) (unit : ScriptUnit) (lists : List (List ℕ)) (i : ℕ) (u : Machine) (x : SessionId) (m : Member (ReplaysShare pool h) cast unit lists i u)
     → u.session ≡ Some x → IsOwnSession m.before.session (numbers_at i unit lists) x
-member-session pool h users unit lists i u x m is = by_how m.how
+member-session pool h cast unit lists i u x m is = by_how m.how
   where
     by_how : ((numbers_at i unit lists ≡ []) × (u ≡ m.before)) ⊎ ((share : UnitShare) × ReplaysShare pool h share m.before (numbers_at i unit lists) u)
         → IsOwnSession m.before.session (numbers_at i unit lists) x
@@ -140,52 +140,52 @@ member-session pool h users unit lists i u x m is = by_how m.how
         subst (λ (s : Option SessionId). IsOwnSession s (numbers_at i unit lists) x) (starting-same some.0 m.before).session
         (own-after pool h (starting some.0 m.before) (numbers_at i unit lists) u x some.1.turns is)
 
-pub cast-next : (pool : ℕ) (h : List Entry) (users : List Machine) (first : ℕ) (unit : ScriptUnit) (lists : List (List ℕ)) (afters : List Machine) (last : ℕ)
-    → AreApart unit → EachShare (ReplaysShare pool h) users unit lists afters
-    → AreSplit first last lists → first ≤ last → Cast first users → Cast last (with_afters unit afters users)
-cast-next pool h users first unit lists afters last apart each split up cast = record {
+pub come-next : (pool : ℕ) (h : List Entry) (cast : Cast) (first : ℕ) (unit : ScriptUnit) (lists : List (List ℕ)) (afters : List Machine) (last : ℕ)
+    → AreApart unit → EachShare (ReplaysShare pool h) cast unit lists afters
+    → AreSplit first last lists → first ≤ last → HaveCome first cast → HaveCome last (cast_after unit afters cast)
+come-next pool h cast first unit lists afters last apart each split up come = record {
   begun = begun;
   one = λ i j u v x at at' is is'. by_place i j u v x at at' is is' (cases_Bool (i == j));
   numbers = λ i u at. number i u (at-place i u at);
 }
   where
-    at-place : (i : ℕ) (u : Machine) → slice_get (with_afters unit afters users) i ≡ Some u
-        → Member (ReplaysShare pool h) users unit lists i u
-    at-place i u at = member (ReplaysShare pool h) users users unit lists afters i u apart each refl at
+    at-place : (i : ℕ) (u : Machine) → slice_get (with_afters unit afters cast.users) i ≡ Some u
+        → Member (ReplaysShare pool h) cast unit lists i u
+    at-place i u at = member (ReplaysShare pool h) cast cast.users unit lists afters i u apart each refl at
 
-    low : (i : ℕ) (u : Machine) (x : SessionId) (m : Member (ReplaysShare pool h) users unit lists i u)
+    low : (i : ℕ) (u : Machine) (x : SessionId) (m : Member (ReplaysShare pool h) cast unit lists i u)
         → IsOwnSession m.before.session (numbers_at i unit lists) x → x.0 ≤ last
-    low i u x m (inl is) = let least = cast.begun i m.before x m.here is in omega (arith, least, up)
+    low i u x m (inl is) = let least = come.begun i m.before x m.here is in omega (arith, least, up)
     low i u x m (inr some) =
         let few = few-one x.0 i unit lists in
         (split-in first last lists x.0 split (omega (arith, few, some))).1
 
     begun : (i : ℕ) (u : Machine) (x : SessionId)
-        → slice_get (with_afters unit afters users) i ≡ Some u → u.session ≡ Some x → x.0 ≤ last
+        → slice_get (with_afters unit afters cast.users) i ≡ Some u → u.session ≡ Some x → x.0 ≤ last
     begun i u x at is =
         let m = at-place i u at in
-        low i u x m (member-session pool h users unit lists i u x m is)
+        low i u x m (member-session pool h cast unit lists i u x m is)
 
     by_place : (i j : ℕ) (u v : Machine) (x : SessionId)
-        → slice_get (with_afters unit afters users) i ≡ Some u → slice_get (with_afters unit afters users) j ≡ Some v
+        → slice_get (with_afters unit afters cast.users) i ≡ Some u → slice_get (with_afters unit afters cast.users) j ≡ Some v
         → u.session ≡ Some x → v.session ≡ Some x → ((i == j) ≡ true) ⊎ ((i == j) ≡ false) → i ≡ j
     by_place i j u v x at at' is is' (inl e) = eqb-true i j e
     by_place i j u v x at at' is is' (inr e) =
         let m = at-place i u at in
         let n = at-place j v at' in
-        absurd (sessions-apart users first unit lists last i j m.before n.before x cast split e m.here n.here
-        (member-session pool h users unit lists i u x m is) (member-session pool h users unit lists j v x n is'))
+        absurd (sessions-apart cast first unit lists last i j m.before n.before x come split e m.here n.here
+        (member-session pool h cast unit lists i u x m is) (member-session pool h cast unit lists j v x n is'))
 
-    number : (i : ℕ) (u : Machine) → Member (ReplaysShare pool h) users unit lists i u
+    number : (i : ℕ) (u : Machine) → Member (ReplaysShare pool h) cast unit lists i u
         → u.number ≡ i + 1
     number i u m = by_how m.how
       where
         by_how : ((numbers_at i unit lists ≡ []) × (u ≡ m.before)) ⊎ ((share : UnitShare) × ReplaysShare pool h share m.before (numbers_at i unit lists) u)
             → u.number ≡ i + 1
-        by_how (inl none) = ap (λ (n : Machine). n.number) none.1 ∙ cast.numbers i m.before m.here
+        by_how (inl none) = ap (λ (n : Machine). n.number) none.1 ∙ come.numbers i m.before m.here
         by_how (inr some) =
             number-after pool h (starting some.0 m.before) (numbers_at i unit lists) u some.1.turns
-            ∙ (starting-same some.0 m.before).number ∙ cast.numbers i m.before m.here
+            ∙ (starting-same some.0 m.before).number ∙ come.numbers i m.before m.here
 
 -- What a user owes.
 
@@ -276,17 +276,17 @@ played-owed pool h first last before (n ∷ ns) after inside up owes plays =
     }
 
 -- each of the users owes nothing
-abbrev pub AllOweNothing : ℕ → List Entry → List Machine → Type 0
-AllOweNothing pool h users = (i : ℕ) (u : Machine) → slice_get users i ≡ Some u → OwesNothing pool h u.session
+abbrev pub AllOweNothing : ℕ → List Entry → Cast → Type 0
+AllOweNothing pool h cast = (i : ℕ) (u : Machine) → slice_get cast.users i ≡ Some u → OwesNothing pool h u.session
 
 pub replays-share : (pool : ℕ) (h : List Entry) (share : UnitShare) (before : Machine) (ns : List ℕ) (after : Machine)
     → PlaysShare pool h share before ns after → ReplaysShare pool h share before ns after
 replays-share pool h share before ns after plays = plays.replays
 
-member-owed : (pool : ℕ) (h : List Entry) (users : List Machine) (first : ℕ) (unit : ScriptUnit) (lists : List (List ℕ)) (last i : ℕ) (u : Machine)
-    → AreSplit first last lists → first ≤ last → AllOweNothing pool (take first h) users
-    → Member (PlaysShare pool h) users unit lists i u → OwedNothing pool h first last (numbers_at i unit lists) u.session
-member-owed pool h users first unit lists last i u split up owes m = by_how m.how
+member-owed : (pool : ℕ) (h : List Entry) (cast : Cast) (first : ℕ) (unit : ScriptUnit) (lists : List (List ℕ)) (last i : ℕ) (u : Machine)
+    → AreSplit first last lists → first ≤ last → AllOweNothing pool (take first h) cast
+    → Member (PlaysShare pool h) cast unit lists i u → OwedNothing pool h first last (numbers_at i unit lists) u.session
+member-owed pool h cast first unit lists last i u split up owes m = by_how m.how
   where
     inside : (b : ℕ) → 1 ≤ count_of b (numbers_at i unit lists) → (first < b) × (b ≤ last)
     inside b some = let few = few-one b i unit lists in split-in first last lists b split (omega (arith, few, some))
@@ -305,26 +305,26 @@ member-owed pool h users first unit lists last i u split up owes m = by_how m.ho
         (ap (option_and_then (settling_call (standing_of pool (take first h)).world)) (starting-same some.0 m.before).session ∙ owes i m.before m.here) some.1
 
 -- a user that owed nothing before a unit owes nothing behind it
-owes-next : (pool : ℕ) (h : List Entry) (users : List Machine) (first : ℕ) (unit : ScriptUnit) (lists : List (List ℕ)) (afters : List Machine) (last : ℕ)
-    → AreApart unit → EachShare (PlaysShare pool h) users unit lists afters → AreSplit first last lists → first ≤ last
-    → Cast first users → IsLegal pool (take last h) → AllOweNothing pool (take first h) users → AllOweNothing pool (take last h) (with_afters unit afters users)
-owes-next pool h users first unit lists afters last apart each split up cast legal owes i u at = by_session u.session refl
+owes-next : (pool : ℕ) (h : List Entry) (cast : Cast) (first : ℕ) (unit : ScriptUnit) (lists : List (List ℕ)) (afters : List Machine) (last : ℕ)
+    → AreApart unit → EachShare (PlaysShare pool h) cast unit lists afters → AreSplit first last lists → first ≤ last
+    → HaveCome first cast → IsLegal pool (take last h) → AllOweNothing pool (take first h) cast → AllOweNothing pool (take last h) (cast_after unit afters cast)
+owes-next pool h cast first unit lists afters last apart each split up come legal owes i u at = by_session u.session refl
   where
-    m : Member (PlaysShare pool h) users unit lists i u
-    m = member (PlaysShare pool h) users users unit lists afters i u apart each refl at
+    m : Member (PlaysShare pool h) cast unit lists i u
+    m = member (PlaysShare pool h) cast cast.users unit lists afters i u apart each refl at
 
-    weak : EachShare (ReplaysShare pool h) users unit lists afters
-    weak = each-weaker (PlaysShare pool h) (ReplaysShare pool h) users unit lists afters (replays-share pool h) each
+    weak : EachShare (ReplaysShare pool h) cast unit lists afters
+    weak = each-weaker (PlaysShare pool h) (ReplaysShare pool h) cast unit lists afters (replays-share pool h) each
 
-    n : Member (ReplaysShare pool h) users unit lists i u
-    n = member (ReplaysShare pool h) users users unit lists afters i u apart weak refl at
+    n : Member (ReplaysShare pool h) cast unit lists i u
+    n = member (ReplaysShare pool h) cast cast.users unit lists afters i u apart weak refl at
 
     owed : OwedNothing pool h first last (numbers_at i unit lists) u.session
-    owed = member-owed pool h users first unit lists last i u split up owes m
+    owed = member-owed pool h cast first unit lists last i u split up owes m
 
     apart-from : (x : SessionId) (k : ℕ) (e : Entry) → u.session ≡ Some x → owed.from ≤ k → k < last
         → slice_get h k ≡ Some e
-        → HasMember (ReplaysShare pool h) users unit lists (k + 1) → e.session.0 ≡ x.0 → ⊥
+        → HasMember (ReplaysShare pool h) cast unit lists (k + 1) → e.session.0 ≡ x.0 → ⊥
     apart-from x k e is low high there who same = by_place (cases_Bool (i == who.place))
       where
         by_place : ((i == who.place) ≡ true) ⊎ ((i == who.place) ≡ false) → ⊥
@@ -339,8 +339,8 @@ owes-next pool h users first unit lists afters last apart each split up cast leg
             let own : IsOwnSession who.before.session (numbers_at who.place unit lists) e.session =
             subst (λ (s : Option SessionId). IsOwnSession s (numbers_at who.place unit lists) e.session) (starting-same who.share who.before).session
             (own-entry pool h (k + 1) (starting who.share who.before) (numbers_at who.place unit lists) who.after e who.goes.turns who.some (ap (slice_get h) at' ∙ there)) in
-            sessions-apart users first unit lists last i who.place n.before who.before x cast split other n.here who.here
-            (member-session pool h users unit lists i u x n is) (subst (IsOwnSession who.before.session (numbers_at who.place unit lists)) mine own)
+            sessions-apart cast first unit lists last i who.place n.before who.before x come split other n.here who.here
+            (member-session pool h cast unit lists i u x n is) (subst (IsOwnSession who.before.session (numbers_at who.place unit lists)) mine own)
 
     by_session : (s : Option SessionId) → u.session ≡ s
         → OwesNothing pool (take last h) u.session
@@ -351,37 +351,37 @@ owes-next pool h users first unit lists afters last apart each split up cast leg
         (λ k e low high there same.
         let first_low = owed.low in
         let once : times_among (k + 1) lists ≡ 1 = split-has first last lists (k + 1) split (omega (arith, first_low, low)) (omega (arith, high)) in
-        apart-from x k e is low high there (has-member (ReplaysShare pool h) users unit lists afters (k + 1) apart weak (omega (arith, once))) same)
+        apart-from x k e is low high there (has-member (ReplaysShare pool h) cast unit lists afters (k + 1) apart weak (omega (arith, once))) same)
         ∙ (ap (option_and_then (settling_call (standing_of pool (take owed.from h)).world)) (sym is) ∙ owed.owes)
 
 -- Units.
 
 -- a unit whose numbers are all of its range
-joined-unit : (pool : ℕ) (h : List Entry) (users : List Machine) (first : ℕ) (unit : ScriptUnit) (lists : List (List ℕ)) (next : List Machine) (last : ℕ)
-    → AreApart unit → AreSplit first last lists → last ≤ length h → Cast first users
-    → IsLegal pool (take last h) → AllOweNothing pool (take first h) users → TurnsOfUnit pool h users first unit lists next last → ReplaysUnit pool h users first unit next last
-joined-unit pool h users first unit lists next last apart split within cast legal owes turns = record {
+joined-unit : (pool : ℕ) (h : List Entry) (cast : Cast) (first : ℕ) (unit : ScriptUnit) (lists : List (List ℕ)) (next : Cast) (last : ℕ)
+    → AreApart unit → AreSplit first last lists → last ≤ length h → HaveCome first cast
+    → IsLegal pool (take last h) → AllOweNothing pool (take first h) cast → TurnsOfUnit pool h cast first unit lists next last → ReplaysUnit pool h cast first unit next last
+joined-unit pool h cast first unit lists next last apart split within come legal owes turns = record {
   lists = lists;
   afters = turns.afters;
   forward = turns.forward;
   within = within;
   split = split;
-  replays = each-weaker (PlaysShare pool h) (ReplaysShare pool h) users unit lists turns.afters (replays-share pool h) turns.plays;
-  ended = all-afters (PlaysShare pool h) (λ (u : Machine). OwesNothing pool (take last h) u.session) (NeedsNoCall pool (take last h)) users users unit lists turns.afters apart turns.plays
-      (λ share before ns after plays owed. owes-needs pool (take last h) after plays.no_task owed) (have-same users unit)
-      (owes-next pool h users first unit lists turns.afters last apart turns.plays split turns.forward cast legal owes);
+  replays = each-weaker (PlaysShare pool h) (ReplaysShare pool h) cast unit lists turns.afters (replays-share pool h) turns.plays;
+  ended = all-afters (PlaysShare pool h) (λ (u : Machine). OwesNothing pool (take last h) u.session) (NeedsNoCall pool (take last h)) cast cast.users unit lists turns.afters apart turns.plays
+      (λ share before ns after plays owed. owes-needs pool (take last h) after plays.no_task owed) (have-same cast.users unit)
+      (owes-next pool h cast first unit lists turns.afters last apart turns.plays split turns.forward come legal owes);
   others = turns.others;
 }
 
-pub units-forward : (pool : ℕ) (h : List Entry) (users : List Machine) (first : ℕ) (units : List ScriptUnit) (lists : List (List (List ℕ))) (next : List Machine) (last : ℕ)
-    → TurnsOfUnits pool h users first units lists next last → first ≤ last
-units-forward pool h users first [] [] next last turns = let is : last ≡ first = turns.1 in omega (arith, is)
-units-forward pool h users first (unit ∷ units) (lists ∷ more) next last turns =
+pub units-forward : (pool : ℕ) (h : List Entry) (cast : Cast) (first : ℕ) (units : List ScriptUnit) (lists : List (List (List ℕ))) (next : Cast) (last : ℕ)
+    → TurnsOfUnits pool h cast first units lists next last → first ≤ last
+units-forward pool h cast first [] [] next last turns = let is : last ≡ first = turns.1 in omega (arith, is)
+units-forward pool h cast first (unit ∷ units) (lists ∷ more) next last turns =
     let up = turns.1.1.0.forward in
     let rest = units-forward pool h turns.0 turns.1.0 units more next last turns.1.1.1 in
     omega (arith, up, rest)
-units-forward pool h users first [] (lists ∷ more) next last turns = absurd turns
-units-forward pool h users first (unit ∷ units) [] next last turns = absurd turns
+units-forward pool h cast first [] (lists ∷ more) next last turns = absurd turns
+units-forward pool h cast first (unit ∷ units) [] next last turns = absurd turns
 
 -- no number outside the range of units stands in their lists
 abbrev pub IsOutside : ℕ → ℕ → ℕ → Type 0
@@ -419,11 +419,11 @@ among-append b (ns ∷ lists) more =
     let rest = among-append b lists more in
     omega (arith, one, two, rest)
 
-pub outside-units : (pool : ℕ) (h : List Entry) (users : List Machine) (first : ℕ) (units : List ScriptUnit) (lists : List (List (List ℕ))) (next : List Machine) (last b : ℕ)
-    → TurnsOfUnits pool h users first units lists next last → IsOutside first last b
+pub outside-units : (pool : ℕ) (h : List Entry) (cast : Cast) (first : ℕ) (units : List ScriptUnit) (lists : List (List (List ℕ))) (next : Cast) (last b : ℕ)
+    → TurnsOfUnits pool h cast first units lists next last → IsOutside first last b
     → times_among b (lists_in lists) ≡ 0
-outside-units pool h users first [] [] next last b turns out = refl
-outside-units pool h users first (unit ∷ units) (lists ∷ more) next last b turns out =
+outside-units pool h cast first [] [] next last b turns out = refl
+outside-units pool h cast first (unit ∷ units) (lists ∷ more) next last b turns out =
     let all = among-append b lists (lists_in more) in
     let one = outside-lists first turns.1.0 b lists (front out) turns.1.1.0.inside in
     let rest = outside-units pool h turns.0 turns.1.0 units more next last b turns.1.1.1 (back out) in
@@ -436,33 +436,33 @@ outside-units pool h users first (unit ∷ units) (lists ∷ more) next last b t
     back : IsOutside first last b → IsOutside turns.1.0 last b
     back (inl below) = let up = turns.1.1.0.forward in inl (omega (arith, below, up))
     back (inr past) = inr past
-outside-units pool h users first [] (lists ∷ more) next last b turns out = absurd turns
-outside-units pool h users first (unit ∷ units) [] next last b turns out = absurd turns
+outside-units pool h cast first [] (lists ∷ more) next last b turns out = absurd turns
+outside-units pool h cast first (unit ∷ units) [] next last b turns out = absurd turns
 
--- units whose numbers are all of their range, and the users behind them
-pub record Joined (pool : ℕ) (h : List Entry) (users : List Machine) (first : ℕ) (units : List ScriptUnit) (next : List Machine) (last : ℕ) : Type 0 where
-  pub replays : ReplaysUnits pool h users first units next last
-  pub cast : Cast last next
+-- units whose numbers are all of their range, and the cast behind them
+pub record Joined (pool : ℕ) (h : List Entry) (cast : Cast) (first : ℕ) (units : List ScriptUnit) (next : Cast) (last : ℕ) : Type 0 where
+  pub replays : ReplaysUnits pool h cast first units next last
+  pub come : HaveCome last next
   pub owes : AllOweNothing pool (take last h) next
 
-pub joined-units : (pool : ℕ) (h : List Entry) (users : List Machine) (first : ℕ) (units : List ScriptUnit) (lists : List (List (List ℕ))) (next : List Machine) (last : ℕ)
+pub joined-units : (pool : ℕ) (h : List Entry) (cast : Cast) (first : ℕ) (units : List ScriptUnit) (lists : List (List (List ℕ))) (next : Cast) (last : ℕ)
     → AllByRecursion AreApart units → ((n : ℕ) → n ≤ last → IsLegal pool (take n h))
     → last ≤ length h → ((b : ℕ) → first < b → b ≤ last → times_among b (lists_in lists) ≡ 1)
-    → Cast first users → AllOweNothing pool (take first h) users
-    → TurnsOfUnits pool h users first units lists next last → Joined pool h users first units next last
-joined-units pool h users first [] [] next last apart legal within once cast owes turns = record {
+    → HaveCome first cast → AllOweNothing pool (take first h) cast
+    → TurnsOfUnits pool h cast first units lists next last → Joined pool h cast first units next last
+joined-units pool h cast first [] [] next last apart legal within once come owes turns = record {
   replays = turns;
-  cast = subst (λ (n : ℕ). Cast n next) (sym turns.1) (subst (Cast first) (sym turns.0) cast);
+  come = subst (λ (n : ℕ). HaveCome n next) (sym turns.1) (subst (HaveCome first) (sym turns.0) come);
   owes = subst (λ (n : ℕ). AllOweNothing pool (take n h) next) (sym turns.1) (subst (AllOweNothing pool (take first h)) (sym turns.0) owes);
 }
-joined-units pool h users first (unit ∷ units) (lists ∷ more) next last apart legal within once cast owes turns =
-    let rest = joined-units pool h turns.0 number units more next last apart.1 legal within later cast' owes' turns.1.1.1 in
-    record { replays = (turns.0, (number, (replays, rest.replays))); cast = rest.cast; owes = rest.owes }
+joined-units pool h cast first (unit ∷ units) (lists ∷ more) next last apart legal within once come owes turns =
+    let rest = joined-units pool h turns.0 number units more next last apart.1 legal within later come_on owes' turns.1.1.1 in
+    record { replays = (turns.0, (number, (replays, rest.replays))); come = rest.come; owes = rest.owes }
   where
     number : ℕ
     number = turns.1.0
 
-    turn : TurnsOfUnit pool h users first unit lists turns.0 number
+    turn : TurnsOfUnit pool h cast first unit lists turns.0 number
     turn = turns.1.1.0
 
     up : number ≤ last
@@ -489,37 +489,37 @@ joined-units pool h users first (unit ∷ units) (lists ∷ more) next last apar
     split : AreSplit first number lists
     split = split-from first number lists here (λ b below. outside-lists first number b lists (inl below) turn.inside) (λ b past. outside-lists first number b lists (inr past) turn.inside)
 
-    replays : ReplaysUnit pool h users first unit turns.0 number
-    replays = joined-unit pool h users first unit lists turns.0 number apart.0 split (omega (arith, up, within)) cast (legal number up) owes turn
+    replays : ReplaysUnit pool h cast first unit turns.0 number
+    replays = joined-unit pool h cast first unit lists turns.0 number apart.0 split (omega (arith, up, within)) come (legal number up) owes turn
 
-    cast' : Cast number turns.0
-    cast' = subst (Cast number) (sym turn.others) (cast-next pool h users first unit lists turn.afters number apart.0 (each-weaker (PlaysShare pool h) (ReplaysShare pool h) users unit lists turn.afters (replays-share pool h) turn.plays) split turn.forward cast)
+    come_on : HaveCome number turns.0
+    come_on = subst (HaveCome number) (sym turn.others) (come-next pool h cast first unit lists turn.afters number apart.0 (each-weaker (PlaysShare pool h) (ReplaysShare pool h) cast unit lists turn.afters (replays-share pool h) turn.plays) split turn.forward come)
 
     owes' : AllOweNothing pool (take number h) turns.0
-    owes' = subst (AllOweNothing pool (take number h)) (sym turn.others) (owes-next pool h users first unit lists turn.afters number apart.0 turn.plays split turn.forward cast (legal number up) owes)
-joined-units pool h users first [] (lists ∷ more) next last apart legal within once cast owes turns = absurd turns
-joined-units pool h users first (unit ∷ units) [] next last apart legal within once cast owes turns = absurd turns
+    owes' = subst (AllOweNothing pool (take number h)) (sym turn.others) (owes-next pool h cast first unit lists turn.afters number apart.0 turn.plays split turn.forward come (legal number up) owes)
+joined-units pool h cast first [] (lists ∷ more) next last apart legal within once come owes turns = absurd turns
+joined-units pool h cast first (unit ∷ units) [] next last apart legal within once come owes turns = absurd turns
 
 -- each entry that has a number in the lists follows what stands before it
-pub units-turns-follow : (pool : ℕ) (h : List Entry) (users : List Machine) (first : ℕ) (units : List ScriptUnit) (lists : List (List (List ℕ))) (next : List Machine) (last b : ℕ)
-    → TurnsOfUnits pool h users first units lists next last → 1 ≤ times_among b (lists_in lists)
+pub units-turns-follow : (pool : ℕ) (h : List Entry) (cast : Cast) (first : ℕ) (units : List ScriptUnit) (lists : List (List (List ℕ))) (next : Cast) (last b : ℕ)
+    → TurnsOfUnits pool h cast first units lists next last → 1 ≤ times_among b (lists_in lists)
     → FollowsAt pool h b
-units-turns-follow pool h users first [] [] next last b turns some = absurd (omega (arith, some))
-units-turns-follow pool h users first (unit ∷ units) (lists ∷ more) next last b turns some =
+units-turns-follow pool h cast first [] [] next last b turns some = absurd (omega (arith, some))
+units-turns-follow pool h cast first (unit ∷ units) (lists ∷ more) next last b turns some =
     by_here (cases_lt 0 (times_among b lists)) (units-turns-follow pool h turns.0 turns.1.0 units more next last b turns.1.1.1)
   where
     by_here : (0 < times_among b lists) ⊎ (times_among b lists ≤ 0)
         → (1 ≤ times_among b (lists_in more) → FollowsAt pool h b) → FollowsAt pool h b
     by_here (inl here) rest =
         let t = turns.1.1.0 in
-        shares-follow pool h b users unit lists t.afters (each-weaker (PlaysShare pool h) (ReplaysShare pool h) users unit lists t.afters (replays-share pool h) t.plays) (omega (arith, here))
+        shares-follow pool h b cast unit lists t.afters (each-weaker (PlaysShare pool h) (ReplaysShare pool h) cast unit lists t.afters (replays-share pool h) t.plays) (omega (arith, here))
     by_here (inr none) rest =
         let all = among-append b lists (lists_in more) in
         rest (omega (arith, all, none, some))
-units-turns-follow pool h users first [] (lists ∷ more) next last b turns some = absurd turns
-units-turns-follow pool h users first (unit ∷ units) [] next last b turns some = absurd turns
+units-turns-follow pool h cast first [] (lists ∷ more) next last b turns some = absurd turns
+units-turns-follow pool h cast first (unit ∷ units) [] next last b turns some = absurd turns
 
--- The units of a script, and its users at first.
+-- The units of a script, and its cast at first.
 
 rise-filter : (test : ℕ → Bool) (low : ℕ) (ns : List ℕ) (high : ℕ) → Rise low ns high
     → Rise low (filter test ns) high
@@ -589,25 +589,25 @@ new-at pool low (suc count) (suc i) u at =
     let number = rest.1 in
     (rest.0, omega (arith, number))
 
-first-users : (pool count : ℕ) → Cast 0 (map (new_machine pool) (range_with_len 1 count))
+first-users : (pool count : ℕ) → HaveCome 0 (record { users = map (new_machine pool) (range_with_len 1 count) })
 first-users pool count = record {
   begun = λ i u x at is. let none = (new-at pool 1 count i u at).0 in let clash : None ≡ Some x = sym none ∙ is in absurd cc;
   one = λ i j u v x at at' is is'. let none = (new-at pool 1 count i u at).0 in let clash : None ≡ Some x = sym none ∙ is in absurd cc;
   numbers = λ i u at. (new-at pool 1 count i u at).1;
 }
 
-pub first-cast : (program : Program) → Cast 0 (users_of program)
-first-cast program = first-users program.pool (user_count program)
+pub first-come : (program : Program) → HaveCome 0 (cast_of program)
+first-come program = first-users program.pool (user_count program)
 
 pub first-owes : (program : Program) (h : List Entry)
-    → AllOweNothing program.pool h (users_of program)
+    → AllOweNothing program.pool h (cast_of program)
 first-owes program h i u at =
     ap (option_and_then (settling_call (standing_of program.pool h).world)) (new-at program.pool 1 (user_count program) i u at).0
 
 pub joins-users : JoinsUsers
-joins-users program captures h lists users turns split =
-    let joined = joined-units program.pool h (users_of program) 0 (units_of program captures) lists users (length h) (units-apart program captures) legal (omega arith) once
-    (first-cast program) (first-owes program (take 0 h)) turns.turns in
+joins-users program captures h lists cast turns split =
+    let joined = joined-units program.pool h (cast_of program) 0 (units_of program captures) lists cast (length h) (units-apart program captures) legal (omega arith) once
+    (first-come program) (first-owes program (take 0 h)) turns.turns in
     record { files = turns.files; units = joined.replays }
   where
     once : (b : ℕ) → 0 < b → b ≤ length h → times_among b (lists_in lists) ≡ 1
@@ -616,7 +616,7 @@ joins-users program captures h lists users turns split =
     follows : (b : ℕ) → 0 < b → b ≤ length h → FollowsAt program.pool h b
     follows b up down =
         let one = once b up down in
-        units-turns-follow program.pool h (users_of program) 0 (units_of program captures) lists users (length h) b turns.turns (omega (arith, one))
+        units-turns-follow program.pool h (cast_of program) 0 (units_of program captures) lists cast (length h) b turns.turns (omega (arith, one))
 
     legal : (n : ℕ) → n ≤ length h → IsLegal program.pool (take n h)
     legal n within = legal-to program.pool h (length h) follows n within

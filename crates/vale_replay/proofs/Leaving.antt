@@ -19,7 +19,7 @@ use Rattle.vale_entry.proofs.Numbered.{world-numbered}
 use Rattle.vale_script.specs.Script.{Program}
 use Rattle.vale_replay.specs.Tasks.{Captures, Task, ShutPort, FinishPort, Depart, records_of}
 use Rattle.vale_replay.specs.Machine.{Machine, new_machine, closing_of, closing_tasks, call_of_task, call_of_tasks, at_rest, resting, settling_call, with_tasks, answered, is_settling}
-use Rattle.vale_replay.specs.Replay.{UnitShare, ScriptUnit, TakesTurn, TakesTurns, ReplaysUnit, ReplaysUnits, NeedsNoCall, HasPlayed, standing_before, shares_of, closing_unit, starting, units_of, user_count, users_of, with_afters}
+use Rattle.vale_replay.specs.Replay.{Cast, UnitShare, ScriptUnit, TakesTurn, TakesTurns, ReplaysUnit, ReplaysUnits, NeedsNoCall, HasPlayed, cast_of, closing_unit, shares_of, standing_before, starting, units_of, user_count, with_afters}
 use Rattle.vale_replay.specs.Laws.{HasNoSession, UsersLeave}
 use Rattle.vale_replay.specs.Owners.{Owner, Pool, owner_of_each, owners_at, owners_of_port, owners_of_user, owners_of, times_in, BuffersComeBack}
 use Rattle.vale_replay.proofs.Turns.{some-same}
@@ -118,18 +118,18 @@ leaves-last pool h user (inl on) ended =
 
 -- The closings, one after another.
 
-abbrev HaveGone : ℕ → List Machine → Type 0
-HaveGone low users = (i : ℕ) (u : Machine) → slice_get users i ≡ Some u → i + 1 < low → u.session ≡ None
+abbrev HaveGone : ℕ → Cast → Type 0
+HaveGone low cast = (i : ℕ) (u : Machine) → slice_get cast.users i ≡ Some u → i + 1 < low → u.session ≡ None
 
 abbrev closing_share : ℕ → UnitShare
 closing_share user = record { user = user; tasks = closing_tasks }
 
-closing-left : (pool : ℕ) (h : List Entry) (users : List Machine) (first low : ℕ) (next : List Machine) (last : ℕ)
-    → 1 ≤ low → ReplaysUnit pool h users first (closing_unit low) next last → HaveGone low users → HaveGone (low + 1) next
-closing-left pool h users first low next last some r left i u at below = by_place (cases_Bool (low - 1 == i))
+closing-left : (pool : ℕ) (h : List Entry) (cast : Cast) (first low : ℕ) (next : Cast) (last : ℕ)
+    → 1 ≤ low → ReplaysUnit pool h cast first (closing_unit low) next last → HaveGone low cast → HaveGone (low + 1) next
+closing-left pool h cast first low next last some r left i u at below = by_place (cases_Bool (low - 1 == i))
   where
-    one : Alone pool h users first (closing_share low) next last
-    one = alone pool h users first (closing_share low) next last r
+    one : Alone pool h cast first (closing_share low) next last
+    one = alone pool h cast first (closing_share low) next last r
 
     after : one.after.session ≡ None
     after = leaves-last pool (take last h) one.after
@@ -137,17 +137,17 @@ closing-left pool h users first low next last some r left i u at below = by_plac
         (rest-leaves (record one.before { tasks = closing_tasks one.before }) (closing_tasks one.before) (closing-leaves one.before.own.ports)))
         one.ended
 
-    found : slice_get (slice_set users (low - 1) one.after) i ≡ Some u
-    found = ap (λ (us : List Machine). slice_get us i) (sym one.others) ∙ at
+    found : slice_get (slice_set cast.users (low - 1) one.after) i ≡ Some u
+    found = ap (λ (c : Cast). slice_get c.users i) (sym one.others) ∙ at
 
     by_place : ((low - 1 == i) ≡ true) ⊎ ((low - 1 == i) ≡ false) → u.session ≡ None
     by_place (inl e) =
         let is : low - 1 ≡ i = eqb-true (low - 1) i e in
-        let same : one.after ≡ u = some-same one.after u (sym (ap (slice_get (slice_set users (low - 1) one.after)) (sym is) ∙ get-same users (low - 1) one.after one.before one.here) ∙ found) in
+        let same : one.after ≡ u = some-same one.after u (sym (ap (slice_get (slice_set cast.users (low - 1) one.after)) (sym is) ∙ get-same cast.users (low - 1) one.after one.before one.here) ∙ found) in
         ap (λ (m : Machine). m.session) (sym same) ∙ after
     by_place (inr e) =
         let other = eqb-false (low - 1) i e in
-        left i u (sym (get-other users (low - 1) i one.after e) ∙ found) (lower other)
+        left i u (sym (get-other cast.users (low - 1) i one.after e) ∙ found) (lower other)
       where
         lower : (low - 1 ≡ i → ⊥) → i + 1 < low
         lower other = by_less (cases_lt (i + 1) low)
@@ -156,22 +156,22 @@ closing-left pool h users first low next last some r left i u at below = by_plac
             by_less (inl less) = less
             by_less (inr more) = absurd (other (omega (arith, more, below, some)))
 
-closings-left : (pool : ℕ) (h : List Entry) (users : List Machine) (first low count : ℕ) (next : List Machine) (last : ℕ)
-    → 1 ≤ low → ReplaysUnits pool h users first (map closing_unit (range_with_len low count)) next last → HaveGone low users
+closings-left : (pool : ℕ) (h : List Entry) (cast : Cast) (first low count : ℕ) (next : Cast) (last : ℕ)
+    → 1 ≤ low → ReplaysUnits pool h cast first (map closing_unit (range_with_len low count)) next last → HaveGone low cast
     → HaveGone (low + count) next
-closings-left pool h users first low zero next last some r left i u at below =
-    left i u (ap (λ (us : List Machine). slice_get us i) (sym r.0) ∙ at) (omega (arith, below))
-closings-left pool h users first low (suc count) next last some r left i u at below =
-    closings-left pool h r.0 r.1.0 (low + 1) count next last (omega arith) r.1.1.1 (closing-left pool h users first low r.0 r.1.0 some r.1.1.0 left) i u at (omega (arith, below))
+closings-left pool h cast first low zero next last some r left i u at below =
+    left i u (ap (λ (c : Cast). slice_get c.users i) (sym r.0) ∙ at) (omega (arith, below))
+closings-left pool h cast first low (suc count) next last some r left i u at below =
+    closings-left pool h r.0 r.1.0 (low + 1) count next last (omega arith) r.1.1.1 (closing-left pool h cast first low r.0 r.1.0 some r.1.1.0 left) i u at (omega (arith, below))
 
 -- the units before them
-lines-left : (pool : ℕ) (h : List Entry) (users : List Machine) (first : ℕ) (units : List ScriptUnit) (count : ℕ) (next : List Machine) (last : ℕ)
-    → ReplaysUnits pool h users first (units ++ map closing_unit (range_with_len 1 count)) next last → HaveGone (1 + count) next
-lines-left pool h users first [] count next last r =
-    closings-left pool h users first 1 count next last (omega arith) r (λ i u at below. absurd (omega (arith, below)))
-lines-left pool h users first (unit ∷ units) count next last r = lines-left pool h r.0 r.1.0 units count next last r.1.1.1
+lines-left : (pool : ℕ) (h : List Entry) (cast : Cast) (first : ℕ) (units : List ScriptUnit) (count : ℕ) (next : Cast) (last : ℕ)
+    → ReplaysUnits pool h cast first (units ++ map closing_unit (range_with_len 1 count)) next last → HaveGone (1 + count) next
+lines-left pool h cast first [] count next last r =
+    closings-left pool h cast first 1 count next last (omega arith) r (λ i u at below. absurd (omega (arith, below)))
+lines-left pool h cast first (unit ∷ units) count next last r = lines-left pool h r.0 r.1.0 units count next last r.1.1.1
 
--- the users stay as many
+-- the cast stay as many
 set-length : {X : Type 0} (xs : List X) (i : ℕ) (x : X) → length (slice_set xs i x) ≡ length xs
 set-length [] i x = refl
 set-length (y ∷ ys) zero x = refl
@@ -183,30 +183,30 @@ after-length (share ∷ shares) [] users = refl
 after-length (share ∷ shares) (a ∷ afters) users =
     after-length shares afters (slice_set users (share.user - 1) a) ∙ set-length users (share.user - 1) a
 
-units-length : (pool : ℕ) (h : List Entry) (users : List Machine) (first : ℕ) (units : List ScriptUnit) (next : List Machine) (last : ℕ)
-    → ReplaysUnits pool h users first units next last → length next ≡ length users
-units-length pool h users first [] next last r = ap (λ (us : List Machine). length us) r.0
-units-length pool h users first (unit ∷ units) next last r =
-    let one : ReplaysUnit pool h users first unit r.0 r.1.0 = r.1.1.0 in
-    units-length pool h r.0 r.1.0 units next last r.1.1.1 ∙ ap (λ (us : List Machine). length us) one.others ∙ after-length unit one.afters users
+units-length : (pool : ℕ) (h : List Entry) (cast : Cast) (first : ℕ) (units : List ScriptUnit) (next : Cast) (last : ℕ)
+    → ReplaysUnits pool h cast first units next last → length next.users ≡ length cast.users
+units-length pool h cast first [] next last r = ap (λ (c : Cast). length c.users) r.0
+units-length pool h cast first (unit ∷ units) next last r =
+    let one : ReplaysUnit pool h cast first unit r.0 r.1.0 = r.1.1.0 in
+    units-length pool h r.0 r.1.0 units next last r.1.1.1 ∙ ap (λ (c : Cast). length c.users) one.others ∙ after-length unit one.afters cast.users
 
 get-within : {X : Type 0} (xs : List X) (i : ℕ) (x : X) → slice_get xs i ≡ Some x → i < length xs
 get-within [] i x at = absurd cc
 get-within (y ∷ ys) zero x at = omega arith
 get-within (y ∷ ys) (suc i) x at = let rest = get-within ys i x at in omega (arith, rest)
 
-users-left : (program : Program) (captures : Captures) (h : List Entry) (users : List Machine) → HasPlayed program captures h users
-    → (i : ℕ) (u : Machine) → slice_get users i ≡ Some u → u.session ≡ None
-users-left program captures h users played i u at =
-    lines-left program.pool h (users_of program) 0 (map (shares_of (records_of program.files captures) (user_count program)) program.units) (user_count program) users (length h) played.units i u at below
+users-left : (program : Program) (captures : Captures) (h : List Entry) (cast : Cast) → HasPlayed program captures h cast
+    → (i : ℕ) (u : Machine) → slice_get cast.users i ≡ Some u → u.session ≡ None
+users-left program captures h cast played i u at =
+    lines-left program.pool h (cast_of program) 0 (map (shares_of (records_of program.files captures) (user_count program)) program.units) (user_count program) cast (length h) played.units i u at below
   where
-    count : length users ≡ user_count program
+    count : length cast.users ≡ user_count program
     count =
-        units-length program.pool h (users_of program) 0 (units_of program captures) users (length h) played.units
+        units-length program.pool h (cast_of program) 0 (units_of program captures) cast (length h) played.units
         ∙ length-map (range_with_len 1 (user_count program)) (new_machine program.pool) ∙ length-range_with_len 1 (user_count program)
 
     below : i + 1 < 1 + user_count program
-    below = let within = get-within users i u at in omega (arith, within, count)
+    below = let within = get-within cast.users i u at in omega (arith, within, count)
 
 -- What is left then.
 
@@ -237,8 +237,8 @@ pool-alone true = refl
 pool-alone false = refl
 
 pub users-leave : UsersLeave
-users-leave program captures h users played = record {
-  each = each-from HasNoSession users left;
+users-leave program captures h cast played = record {
+  each = each-from HasNoSession cast.users left;
   no_session = none;
   no_port = no-ports w.sessions w.ports none (world-numbered program.pool h).ports_owned;
 }
@@ -246,33 +246,33 @@ users-leave program captures h users played = record {
     w : World
     w = (standing_of program.pool h).world
 
-    left : (i : ℕ) (u : Machine) → slice_get users i ≡ Some u → u.session ≡ None
-    left = users-left program captures h users played
+    left : (i : ℕ) (u : Machine) → slice_get cast.users i ≡ Some u → u.session ≡ None
+    left = users-left program captures h cast played
 
     gone : (x : ℕ) → is_session w x ≡ true → ⊥
     gone x there =
-        let who = session-of-user program captures h users x (inl played) there in
+        let who = session-of-user program captures h cast x (inl played) there in
         not-there (record { 0 = x }) (sym (left who.place who.user who.here) ∙ who.is)
 
     none : w.sessions ≡ []
     none = no-members w.sessions gone
 
 pub all-back : BuffersComeBack
-all-back program captures h users b played = owners ∙ ap (λ (n : ℕ). replicate n Pool) once ∙ pool-alone (is_buffer_index program.pool b)
+all-back program captures h cast b played = owners ∙ ap (λ (n : ℕ). replicate n Pool) once ∙ pool-alone (is_buffer_index program.pool b)
   where
     s : Standing
     s = standing_of program.pool h
 
-    stands : StandsOnSides program.pool h users
-    stands = users-sides program captures h users (inl played)
+    stands : StandsOnSides program.pool h cast
+    stands = users-sides program captures h cast (inl played)
 
-    left : (i : ℕ) (u : Machine) → slice_get users i ≡ Some u → u.session ≡ None
-    left = users-left program captures h users played
+    left : (i : ℕ) (u : Machine) → slice_get cast.users i ≡ Some u → u.session ≡ None
+    left = users-left program captures h cast played
 
     no_port : s.world.ports ≡ []
-    no_port = (users-leave program captures h users played).no_port
+    no_port = (users-leave program captures h cast played).no_port
 
-    of_user : (i : ℕ) (u : Machine) → slice_get users i ≡ Some u → owners_of_user b u ≡ []
+    of_user : (i : ℕ) (u : Machine) → slice_get cast.users i ≡ Some u → owners_of_user b u ≡ []
     of_user i u at =
         let side = stands.sides i u at in
         let empty : u.own ≡ empty_own program.pool = (subst (λ (x : Option SessionId). SideOf program.pool s x side.0 u.own) (left i u at) side.1).0 in
@@ -281,10 +281,10 @@ all-back program captures h users b played = owners ∙ ap (λ (n : ℕ). replic
     pool_side : List Owner
     pool_side = owner_of_each b Pool s.holdings.free
 
-    owners : owners_of s users b ≡ pool_side
+    owners : owners_of s cast.users b ≡ pool_side
     owners =
-        ap (λ (os : List Owner). pool_side ++ (os ++ flat_map (owners_of_user b) users)) (owners-none b s.world.ports s.holdings.ports no_port)
-        ∙ ap (λ (os : List Owner). pool_side ++ os) (users-none b users (each-from (λ (u : Machine). owners_of_user b u ≡ []) users of_user)) ∙ append-nil pool_side
+        ap (λ (os : List Owner). pool_side ++ (os ++ flat_map (owners_of_user b) cast.users)) (owners-none b s.world.ports s.holdings.ports no_port)
+        ∙ ap (λ (os : List Owner). pool_side ++ os) (users-none b cast.users (each-from (λ (u : Machine). owners_of_user b u ≡ []) cast.users of_user)) ∙ append-nil pool_side
 
     once : times_in b s.holdings.free ≡ cond (is_buffer_index program.pool b) 1 0
-    once = sym (length-replicate (times_in b s.holdings.free) Pool) ∙ ap (λ (os : List Owner). length os) (sym owners) ∙ owned-once program captures h users (inl played) b
+    once = sym (length-replicate (times_in b s.holdings.free) Pool) ∙ ap (λ (os : List Owner). length os) (sym owners) ∙ owned-once program captures h cast (inl played) b

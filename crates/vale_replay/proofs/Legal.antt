@@ -13,7 +13,7 @@ use Rattle.vale_entry.proofs.KeptPuts.{puts-kept}
 use Rattle.vale_entry.proofs.Worlds.{legal-push}
 use Rattle.vale_script.specs.Script.{Program}
 use Rattle.vale_replay.specs.Machine.{Machine}
-use Rattle.vale_replay.specs.Replay.{TakesTurn, TakesTurns, ReplaysShare, ReplaysUnit, ReplaysUnits, EachShare, AreSplit, HasPlayed, Reaches, ScriptUnit, times_among, entry_of, entry_made, standing_before, starting, units_of, users_of}
+use Rattle.vale_replay.specs.Replay.{Cast, TakesTurn, TakesTurns, ReplaysShare, ReplaysUnit, ReplaysUnits, EachShare, AreSplit, HasPlayed, Reaches, ScriptUnit, cast_of, entry_made, entry_of, standing_before, starting, times_among, units_of}
 use Rattle.vale_replay.specs.Laws.{PlayedIsLegal}
 use Rattle.vale_replay.specs.Tasks.{Captures}
 
@@ -90,32 +90,32 @@ one-or_others pool h b ns lists some one others = by_here (cases_lt 0 (count_of 
     by_here (inl here) = one (omega (arith, here))
     by_here (inr none) = others (omega (arith, all, none, some))
 
-pub shares-follow : (pool : ℕ) (h : List Entry) (b : ℕ) (users : List Machine) (unit : ScriptUnit) (lists : List (List ℕ)) (afters : List Machine)
-    → EachShare (ReplaysShare pool h) users unit lists afters → 1 ≤ times_among b lists → FollowsAt pool h b
-shares-follow pool h b users [] [] [] each some = absurd (omega (arith, some))
-shares-follow pool h b users (share ∷ shares) (ns ∷ lists) (after ∷ afters) each some =
-    one-or_others pool h b ns lists some (turns-follow pool h b (starting share each.0.0) ns after each.0.2.turns) (shares-follow pool h b users shares lists afters each.1)
-shares-follow pool h b users _ _ _ each some = absurd each
+pub shares-follow : (pool : ℕ) (h : List Entry) (b : ℕ) (cast : Cast) (unit : ScriptUnit) (lists : List (List ℕ)) (afters : List Machine)
+    → EachShare (ReplaysShare pool h) cast unit lists afters → 1 ≤ times_among b lists → FollowsAt pool h b
+shares-follow pool h b cast [] [] [] each some = absurd (omega (arith, some))
+shares-follow pool h b cast (share ∷ shares) (ns ∷ lists) (after ∷ afters) each some =
+    one-or_others pool h b ns lists some (turns-follow pool h b (starting share each.0.0) ns after each.0.2.turns) (shares-follow pool h b cast shares lists afters each.1)
+shares-follow pool h b cast _ _ _ each some = absurd each
 
-split-follows : (pool : ℕ) (h : List Entry) (users : List Machine) (first : ℕ) (unit : ScriptUnit) (lists : List (List ℕ)) (afters : List Machine) (last b : ℕ)
-    → AreSplit first last lists → EachShare (ReplaysShare pool h) users unit lists afters → first < b → b ≤ last → FollowsAt pool h b
-split-follows pool h users first unit lists afters last b split each up down =
+split-follows : (pool : ℕ) (h : List Entry) (cast : Cast) (first : ℕ) (unit : ScriptUnit) (lists : List (List ℕ)) (afters : List Machine) (last b : ℕ)
+    → AreSplit first last lists → EachShare (ReplaysShare pool h) cast unit lists afters → first < b → b ≤ last → FollowsAt pool h b
+split-follows pool h cast first unit lists afters last b split each up down =
     let low : nat_lt first b ≡ true = lt-ltb first b up in
     let high : nat_le b last ≡ true = le-leb b last down in
     let once : times_among b lists ≡ 1 = split b ∙ ap (λ (x : Bool). cond (x && nat_le b last) 1 0) low ∙ ap (λ (x : Bool). cond x 1 0) high in
-    shares-follow pool h b users unit lists afters each (omega (arith, once))
+    shares-follow pool h b cast unit lists afters each (omega (arith, once))
 
-unit-follows : (pool : ℕ) (h : List Entry) (users : List Machine) (first : ℕ) (unit : ScriptUnit) (next : List Machine) (last b : ℕ)
-    → ReplaysUnit pool h users first unit next last
+unit-follows : (pool : ℕ) (h : List Entry) (cast : Cast) (first : ℕ) (unit : ScriptUnit) (next : Cast) (last b : ℕ)
+    → ReplaysUnit pool h cast first unit next last
     → first < b → b ≤ last → FollowsAt pool h b
-unit-follows pool h users first unit next last b one up down = split-follows pool h users first unit one.lists one.afters last b one.split one.replays up down
+unit-follows pool h cast first unit next last b one up down = split-follows pool h cast first unit one.lists one.afters last b one.split one.replays up down
 
-units-follow : (pool : ℕ) (h : List Entry) (users : List Machine) (first : ℕ) (units : List ScriptUnit) (next : List Machine) (last b : ℕ)
-    → ReplaysUnits pool h users first units next last
+units-follow : (pool : ℕ) (h : List Entry) (cast : Cast) (first : ℕ) (units : List ScriptUnit) (next : Cast) (last b : ℕ)
+    → ReplaysUnits pool h cast first units next last
     → first < b → b ≤ last → FollowsAt pool h b
-units-follow pool h users first [] next last b all up down = let is : last ≡ first = all.1 in absurd (omega (arith, is, up, down))
-units-follow pool h users first (unit ∷ units) next last b all up down =
-    later-or_here pool h b all.1.0 (λ later. units-follow pool h all.0 all.1.0 units next last b all.1.1.1 later down) (λ here. unit-follows pool h users first unit all.0 all.1.0 b all.1.1.0 up here)
+units-follow pool h cast first [] next last b all up down = let is : last ≡ first = all.1 in absurd (omega (arith, is, up, down))
+units-follow pool h cast first (unit ∷ units) next last b all up down =
+    later-or_here pool h b all.1.0 (λ later. units-follow pool h all.0 all.1.0 units next last b all.1.1.1 later down) (λ here. unit-follows pool h cast first unit all.0 all.1.0 b all.1.1.0 up here)
   where
     later-or_here : (pool : ℕ) (h : List Entry) (b number : ℕ) → (number < b → FollowsAt pool h b)
         → (b ≤ number → FollowsAt pool h b) → FollowsAt pool h b
@@ -144,14 +144,14 @@ legal-to pool h last each (suc n) within =
     let before = legal-to pool h last each n (omega (arith, within)) in
     subst (IsLegal pool) (sym (take-one_more h n here.entry there)) (legal-push pool (take n h) here.entry before follows)
 
-reached-follows : (program : Program) (captures : Captures) (h : List Entry) (nows : List Machine)
+reached-follows : (program : Program) (captures : Captures) (h : List Entry) (nows : Cast)
     → Reaches program captures h nows
     → (b : ℕ) → 0 < b → b ≤ length h → FollowsAt program.pool h b
 reached-follows program captures h nows r b up down = by_unit (cases_lt r.first b)
   where
     by_unit : (r.first < b) ⊎ (b ≤ r.first) → FollowsAt program.pool h b
-    by_unit (inl later) = split-follows program.pool h r.users r.first r.unit r.lists r.afters (length h) b r.split r.replays later down
-    by_unit (inr here) = units-follow program.pool h (users_of program) 0 (take r.count (units_of program captures)) r.users r.first b r.units up here
+    by_unit (inl later) = split-follows program.pool h r.cast r.first r.unit r.lists r.afters (length h) b r.split r.replays later down
+    by_unit (inr here) = units-follow program.pool h (cast_of program) 0 (take r.count (units_of program captures)) r.cast r.first b r.units up here
 
 pub played-legal : PlayedIsLegal
 played-legal program captures h nows way =
@@ -159,5 +159,5 @@ played-legal program captures h nows way =
   where
     by_way : HasPlayed program captures h nows ⊎ Reaches program captures h nows → (b : ℕ) → 0 < b
         → b ≤ length h → FollowsAt program.pool h b
-    by_way (inl one) = λ b up down. units-follow program.pool h (users_of program) 0 (units_of program captures) nows (length h) b one.units up down
+    by_way (inl one) = λ b up down. units-follow program.pool h (cast_of program) 0 (units_of program captures) nows (length h) b one.units up down
     by_way (inr r) = reached-follows program captures h nows r

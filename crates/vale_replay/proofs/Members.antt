@@ -6,7 +6,7 @@ use Rattle.std.proofs.lemmas.Bool.{eqb-true, eq-eqb, ne_eqb, cases_Bool, cases_l
 use Rattle.vale_entry.specs.Laws.{Rise}
 use Rattle.vale_entry.proofs.Counting.{count_of, count_of-append}
 use Rattle.vale_replay.specs.Machine.{Machine}
-use Rattle.vale_replay.specs.Replay.{UnitShare, ScriptUnit, EachShare, is_share_of, times_among, with_afters}
+use Rattle.vale_replay.specs.Replay.{Cast, UnitShare, ScriptUnit, EachShare, is_share_of, times_among, with_afters}
 use Rattle.vale_replay.proofs.Turns.{some-same}
 
 -- Places of a list.
@@ -64,20 +64,20 @@ after-elsewhere i (share ∷ shares) (after ∷ afters) users away =
 
 -- a user behind the unit: one that has no share in it is as it was, and each other is where its
 -- numbers have brought it
-pub record Member (R : UnitShare → Machine → List ℕ → Machine → Type 0) (users : List Machine) (unit : ScriptUnit) (lists : List (List ℕ)) (place : ℕ) (after : Machine) : Type 0 where
+pub record Member (R : UnitShare → Machine → List ℕ → Machine → Type 0) (cast : Cast) (unit : ScriptUnit) (lists : List (List ℕ)) (place : ℕ) (after : Machine) : Type 0 where
   pub before : Machine
-  pub here : slice_get users place ≡ Some before
+  pub here : slice_get cast.users place ≡ Some before
   pub how : ((numbers_at place unit lists ≡ []) × (after ≡ before)) ⊎ ((share : UnitShare) × R share before (numbers_at place unit lists) after)
 
-member-here : (R : UnitShare → Machine → List ℕ → Machine → Type 0) (users users' : List Machine) (share : UnitShare) (shares : ScriptUnit) (ns : List ℕ) (lists : List (List ℕ)) (a : Machine) (afters : List Machine) (i : ℕ) (after before : Machine)
+member-here : (R : UnitShare → Machine → List ℕ → Machine → Type 0) (cast : Cast) (users' : List Machine) (share : UnitShare) (shares : ScriptUnit) (ns : List ℕ) (lists : List (List ℕ)) (a : Machine) (afters : List Machine) (i : ℕ) (after before : Machine)
     → AllByRecursion (IsElsewhere (place_of share)) shares → (place_of share == i) ≡ true
-    → slice_get users (place_of share) ≡ Some before → R share before ns a
-    → slice_get users' i ≡ slice_get users i
-    → slice_get (with_afters (share ∷ shares) (a ∷ afters) users') i ≡ Some after → Member R users (share ∷ shares) (ns ∷ lists) i after
-member-here R users users' share shares ns lists a afters i after before away e here r same found =
+    → slice_get cast.users (place_of share) ≡ Some before → R share before ns a
+    → slice_get users' i ≡ slice_get cast.users i
+    → slice_get (with_afters (share ∷ shares) (a ∷ afters) users') i ≡ Some after → Member R cast (share ∷ shares) (ns ∷ lists) i after
+member-here R cast users' share shares ns lists a afters i after before away e here r same found =
     let is : place_of share ≡ i = eqb-true (place_of share) i e in
     let numbers : ns ≡ numbers_at i (share ∷ shares) (ns ∷ lists) = ap (λ (b : Bool). cond b ns (numbers_at i shares lists)) (sym e) in
-    let here' : slice_get users i ≡ Some before = ap (slice_get users) (sym is) ∙ here in
+    let here' : slice_get cast.users i ≡ Some before = ap (slice_get cast.users) (sym is) ∙ here in
     let old : slice_get users' (place_of share) ≡ Some before = ap (slice_get users') is ∙ same ∙ here' in
     let new : slice_get (with_afters (share ∷ shares) (a ∷ afters) users') i ≡ Some a =
     ap (slice_get (with_afters (share ∷ shares) (a ∷ afters) users')) (sym is)
@@ -89,28 +89,28 @@ member-here R users users' share shares ns lists a afters i after before away e 
       how = inr (share, subst (λ (m : Machine). R share before (numbers_at i (share ∷ shares) (ns ∷ lists)) m) after_is (subst (λ (ms : List ℕ). R share before ms a) numbers r));
     }
 
-member-there : (R : UnitShare → Machine → List ℕ → Machine → Type 0) (users : List Machine) (share : UnitShare) (shares : ScriptUnit) (ns : List ℕ) (lists : List (List ℕ)) (i : ℕ) (after : Machine)
+member-there : (R : UnitShare → Machine → List ℕ → Machine → Type 0) (cast : Cast) (share : UnitShare) (shares : ScriptUnit) (ns : List ℕ) (lists : List (List ℕ)) (i : ℕ) (after : Machine)
     → (place_of share == i) ≡ false
-    → Member R users shares lists i after → Member R users (share ∷ shares) (ns ∷ lists) i after
-member-there R users share shares ns lists i after e m =
+    → Member R cast shares lists i after → Member R cast (share ∷ shares) (ns ∷ lists) i after
+member-there R cast share shares ns lists i after e m =
     let numbers : numbers_at i shares lists ≡ numbers_at i (share ∷ shares) (ns ∷ lists) = ap (λ (b : Bool). cond b ns (numbers_at i shares lists)) (sym e) in
     record { before = m.before; here = m.here; how = subst (λ (ms : List ℕ). ((ms ≡ []) × (after ≡ m.before)) ⊎ ((s : UnitShare) × R s m.before ms after)) numbers m.how }
 
-pub member : (R : UnitShare → Machine → List ℕ → Machine → Type 0) (users users' : List Machine) (unit : ScriptUnit) (lists : List (List ℕ)) (afters : List Machine) (i : ℕ) (after : Machine)
-    → AreApart unit → EachShare R users unit lists afters → slice_get users' i ≡ slice_get users i
-    → slice_get (with_afters unit afters users') i ≡ Some after → Member R users unit lists i after
-member R users users' [] [] [] i after apart each same found = record { before = after; here = sym same ∙ found; how = inl (refl, refl) }
-member R users users' (share ∷ shares) (ns ∷ lists) (a ∷ afters) i after apart each same found =
-    by_here (cases_Bool (place_of share == i)) (member R users (slice_set users' (place_of share) a) shares lists afters i after apart.1 each.1)
+pub member : (R : UnitShare → Machine → List ℕ → Machine → Type 0) (cast : Cast) (users' : List Machine) (unit : ScriptUnit) (lists : List (List ℕ)) (afters : List Machine) (i : ℕ) (after : Machine)
+    → AreApart unit → EachShare R cast unit lists afters → slice_get users' i ≡ slice_get cast.users i
+    → slice_get (with_afters unit afters users') i ≡ Some after → Member R cast unit lists i after
+member R cast users' [] [] [] i after apart each same found = record { before = after; here = sym same ∙ found; how = inl (refl, refl) }
+member R cast users' (share ∷ shares) (ns ∷ lists) (a ∷ afters) i after apart each same found =
+    by_here (cases_Bool (place_of share == i)) (member R cast (slice_set users' (place_of share) a) shares lists afters i after apart.1 each.1)
   where
     by_here : ((place_of share == i) ≡ true) ⊎ ((place_of share == i) ≡ false)
-        → (slice_get (slice_set users' (place_of share) a) i ≡ slice_get users i → slice_get (with_afters shares afters (slice_set users' (place_of share) a)) i ≡ Some after → Member R users shares lists i after)
-        → Member R users (share ∷ shares) (ns ∷ lists) i after
-    by_here (inl e) rest = member-here R users users' share shares ns lists a afters i after each.0.0 apart.0 e each.0.1 each.0.2 same found
-    by_here (inr e) rest = member-there R users share shares ns lists i after e (rest (get-other users' (place_of share) i a e ∙ same) found)
-member R users users' _ _ _ i after apart each same found = absurd each
+        → (slice_get (slice_set users' (place_of share) a) i ≡ slice_get cast.users i → slice_get (with_afters shares afters (slice_set users' (place_of share) a)) i ≡ Some after → Member R cast shares lists i after)
+        → Member R cast (share ∷ shares) (ns ∷ lists) i after
+    by_here (inl e) rest = member-here R cast users' share shares ns lists a afters i after each.0.0 apart.0 e each.0.1 each.0.2 same found
+    by_here (inr e) rest = member-there R cast share shares ns lists i after e (rest (get-other users' (place_of share) i a e ∙ same) found)
+member R cast users' _ _ _ i after apart each same found = absurd each
 
--- Numbers of two users are different ones.
+-- Numbers of two cast are different ones.
 
 pub among-cons : (b : ℕ) (ns : List ℕ) (lists : List (List ℕ))
     → times_among b (ns ∷ lists) ≡ count_of b ns + times_among b lists
@@ -152,18 +152,18 @@ few-two b i j (share ∷ shares) (ns ∷ lists) e =
     omega (arith, both, all)
 
 -- each number of the lists is of one of the users
-pub record HasMember (R : UnitShare → Machine → List ℕ → Machine → Type 0) (users : List Machine) (unit : ScriptUnit) (lists : List (List ℕ)) (b : ℕ) : Type 0 where
+pub record HasMember (R : UnitShare → Machine → List ℕ → Machine → Type 0) (cast : Cast) (unit : ScriptUnit) (lists : List (List ℕ)) (b : ℕ) : Type 0 where
   pub place : ℕ
   pub share : UnitShare
   pub before : Machine
   pub after : Machine
-  pub here : slice_get users place ≡ Some before
+  pub here : slice_get cast.users place ≡ Some before
   pub goes : R share before (numbers_at place unit lists) after
   pub some : 1 ≤ count_of b (numbers_at place unit lists)
 
-has-here : (R : UnitShare → Machine → List ℕ → Machine → Type 0) (users : List Machine) (share : UnitShare) (shares : ScriptUnit) (ns : List ℕ) (lists : List (List ℕ)) (b : ℕ) (before after : Machine)
-    → slice_get users (place_of share) ≡ Some before → R share before ns after → 1 ≤ count_of b ns → HasMember R users (share ∷ shares) (ns ∷ lists) b
-has-here R users share shares ns lists b before after here r some =
+has-here : (R : UnitShare → Machine → List ℕ → Machine → Type 0) (cast : Cast) (share : UnitShare) (shares : ScriptUnit) (ns : List ℕ) (lists : List (List ℕ)) (b : ℕ) (before after : Machine)
+    → slice_get cast.users (place_of share) ≡ Some before → R share before ns after → 1 ≤ count_of b ns → HasMember R cast (share ∷ shares) (ns ∷ lists) b
+has-here R cast share shares ns lists b before after here r some =
     let hit : (place_of share == place_of share) ≡ true = eq-eqb (place_of share) (place_of share) refl in
     let numbers : ns ≡ numbers_at (place_of share) (share ∷ shares) (ns ∷ lists) = ap (λ (x : Bool). cond x ns (numbers_at (place_of share) shares lists)) (sym hit) in
     record {
@@ -176,13 +176,13 @@ has-here R users share shares ns lists b before after here r some =
       some = subst (λ (ms : List ℕ). 1 ≤ count_of b ms) numbers some;
     }
 
-has-there : (R : UnitShare → Machine → List ℕ → Machine → Type 0) (users : List Machine) (share : UnitShare) (shares : ScriptUnit) (ns : List ℕ) (lists : List (List ℕ)) (b : ℕ)
+has-there : (R : UnitShare → Machine → List ℕ → Machine → Type 0) (cast : Cast) (share : UnitShare) (shares : ScriptUnit) (ns : List ℕ) (lists : List (List ℕ)) (b : ℕ)
     → AllByRecursion (IsElsewhere (place_of share)) shares
-    → HasMember R users shares lists b → HasMember R users (share ∷ shares) (ns ∷ lists) b
-has-there R users share shares ns lists b away m = by_here (cases_Bool (place_of share == m.place))
+    → HasMember R cast shares lists b → HasMember R cast (share ∷ shares) (ns ∷ lists) b
+has-there R cast share shares ns lists b away m = by_here (cases_Bool (place_of share == m.place))
   where
     by_here : ((place_of share == m.place) ≡ true) ⊎ ((place_of share == m.place) ≡ false)
-        → HasMember R users (share ∷ shares) (ns ∷ lists) b
+        → HasMember R cast (share ∷ shares) (ns ∷ lists) b
     by_here (inl e) =
         let is : place_of share ≡ m.place = eqb-true (place_of share) m.place e in
         let none : numbers_at m.place shares lists ≡ [] = ap (λ i. numbers_at i shares lists) (sym is) ∙ none-elsewhere (place_of share) shares lists away in
@@ -201,33 +201,33 @@ has-there R users share shares ns lists b away m = by_here (cases_Bool (place_of
           some = subst (λ (ms : List ℕ). 1 ≤ count_of b ms) numbers m.some;
         }
 
-pub has-member : (R : UnitShare → Machine → List ℕ → Machine → Type 0) (users : List Machine) (unit : ScriptUnit) (lists : List (List ℕ)) (afters : List Machine) (b : ℕ)
-    → AreApart unit → EachShare R users unit lists afters → 1 ≤ times_among b lists
-    → HasMember R users unit lists b
-has-member R users [] [] [] b apart each some = absurd (omega (arith, some))
-has-member R users (share ∷ shares) (ns ∷ lists) (a ∷ afters) b apart each some =
-    by_here (cases_lt 0 (count_of b ns)) (has-member R users shares lists afters b apart.1 each.1)
+pub has-member : (R : UnitShare → Machine → List ℕ → Machine → Type 0) (cast : Cast) (unit : ScriptUnit) (lists : List (List ℕ)) (afters : List Machine) (b : ℕ)
+    → AreApart unit → EachShare R cast unit lists afters → 1 ≤ times_among b lists
+    → HasMember R cast unit lists b
+has-member R cast [] [] [] b apart each some = absurd (omega (arith, some))
+has-member R cast (share ∷ shares) (ns ∷ lists) (a ∷ afters) b apart each some =
+    by_here (cases_lt 0 (count_of b ns)) (has-member R cast shares lists afters b apart.1 each.1)
   where
     by_here : (0 < count_of b ns) ⊎ (count_of b ns ≤ 0)
-        → (1 ≤ times_among b lists → HasMember R users shares lists b)
-        → HasMember R users (share ∷ shares) (ns ∷ lists) b
-    by_here (inl here) rest = has-here R users share shares ns lists b each.0.0 a each.0.1 each.0.2 (omega (arith, here))
+        → (1 ≤ times_among b lists → HasMember R cast shares lists b)
+        → HasMember R cast (share ∷ shares) (ns ∷ lists) b
+    by_here (inl here) rest = has-here R cast share shares ns lists b each.0.0 a each.0.1 each.0.2 (omega (arith, here))
     by_here (inr none) rest =
         let all = among-cons b ns lists in
-        has-there R users share shares ns lists b apart.0 (rest (omega (arith, all, none, some)))
-has-member R users _ _ _ b apart each some = absurd each
+        has-there R cast share shares ns lists b apart.0 (rest (omega (arith, all, none, some)))
+has-member R cast _ _ _ b apart each some = absurd each
 
 -- What holds of each share.
 
-pub each-weaker : (R S : UnitShare → Machine → List ℕ → Machine → Type 0) (users : List Machine) (unit : ScriptUnit) (lists : List (List ℕ)) (afters : List Machine)
+pub each-weaker : (R S : UnitShare → Machine → List ℕ → Machine → Type 0) (cast : Cast) (unit : ScriptUnit) (lists : List (List ℕ)) (afters : List Machine)
     → ((share : UnitShare) (before : Machine) (ns : List ℕ) (after : Machine) → R share before ns after → S share before ns after)
-    → EachShare R users unit lists afters → EachShare S users unit lists afters
-each-weaker R S users [] [] [] f each = tt
-each-weaker R S users (share ∷ shares) (ns ∷ lists) (a ∷ afters) f each =
-    ((each.0.0, each.0.1, f share each.0.0 ns a each.0.2), each-weaker R S users shares lists afters f each.1)
-each-weaker R S users _ _ _ f each = absurd each
+    → EachShare R cast unit lists afters → EachShare S cast unit lists afters
+each-weaker R S cast [] [] [] f each = tt
+each-weaker R S cast (share ∷ shares) (ns ∷ lists) (a ∷ afters) f each =
+    ((each.0.0, each.0.1, f share each.0.0 ns a each.0.2), each-weaker R S cast shares lists afters f each.1)
+each-weaker R S cast _ _ _ f each = absurd each
 
--- the places of the shares have the same users as before
+-- the places of the shares have the same cast as before
 abbrev pub HaveSame : List Machine → List Machine → ScriptUnit → Type 0
 HaveSame users others unit =
     AllByRecursion (λ (share : UnitShare). slice_get others (place_of share) ≡ slice_get users (place_of share)) unit
@@ -250,21 +250,21 @@ still-same users users' place a (share ∷ shares) away same =
     (get-other users' place (place_of share) a (other-place (place_of share) place away.0) ∙ same.0, still-same users users' place a shares away.1 same.1)
 
 -- what holds of all users behind the unit holds of those that have a share in it
-pub all-afters : (R : UnitShare → Machine → List ℕ → Machine → Type 0) (P Q : Machine → Type 0) (users users' : List Machine) (unit : ScriptUnit) (lists : List (List ℕ)) (afters : List Machine)
-    → AreApart unit → EachShare R users unit lists afters
+pub all-afters : (R : UnitShare → Machine → List ℕ → Machine → Type 0) (P Q : Machine → Type 0) (cast : Cast) (users' : List Machine) (unit : ScriptUnit) (lists : List (List ℕ)) (afters : List Machine)
+    → AreApart unit → EachShare R cast unit lists afters
     → ((share : UnitShare) (before : Machine) (ns : List ℕ) (after : Machine) → R share before ns after → P after → Q after)
-    → HaveSame users users' unit
+    → HaveSame cast.users users' unit
     → ((i : ℕ) (u : Machine) → slice_get (with_afters unit afters users') i ≡ Some u → P u)
     → AllByRecursion Q afters
-all-afters R P Q users users' [] [] [] apart each f same all = tt
-all-afters R P Q users users' (share ∷ shares) (ns ∷ lists) (a ∷ afters) apart each f same all = (
+all-afters R P Q cast users' [] [] [] apart each f same all = tt
+all-afters R P Q cast users' (share ∷ shares) (ns ∷ lists) (a ∷ afters) apart each f same all = (
   f share each.0.0 ns a each.0.2 (all (place_of share) a new),
-  all-afters R P Q users (slice_set users' (place_of share) a) shares lists afters apart.1 each.1 f (still-same users users' (place_of share) a shares apart.0 same.1) all,
+  all-afters R P Q cast (slice_set users' (place_of share) a) shares lists afters apart.1 each.1 f (still-same cast.users users' (place_of share) a shares apart.0 same.1) all,
 )
   where
     new : slice_get (with_afters (share ∷ shares) (a ∷ afters) users') (place_of share) ≡ Some a
     new = after-elsewhere (place_of share) shares afters (slice_set users' (place_of share) a) apart.0 ∙ get-same users' (place_of share) a each.0.0 (same.0 ∙ each.0.1)
-all-afters R P Q users users' _ _ _ apart each f same all = absurd each
+all-afters R P Q cast users' _ _ _ apart each f same all = absurd each
 
 -- a user that has a share in the unit, behind it
 pub record HasShare (R : UnitShare → Machine → List ℕ → Machine → Type 0) (afters next : List Machine) (user : ℕ) : Type 0 where
@@ -278,13 +278,13 @@ pub record HasShare (R : UnitShare → Machine → List ℕ → Machine → Type
   pub here : slice_get next (user - 1) ≡ Some now
   pub goes : R share before ns now
 
-pub has-share : (R : UnitShare → Machine → List ℕ → Machine → Type 0) (users users' : List Machine) (unit : ScriptUnit) (lists : List (List ℕ)) (nows : List Machine) (user : ℕ)
-    → AreApart unit → EachShare R users unit lists nows
-    → HaveSame users users' unit
+pub has-share : (R : UnitShare → Machine → List ℕ → Machine → Type 0) (cast : Cast) (users' : List Machine) (unit : ScriptUnit) (lists : List (List ℕ)) (nows : List Machine) (user : ℕ)
+    → AreApart unit → EachShare R cast unit lists nows
+    → HaveSame cast.users users' unit
     → list_any (is_share_of user) unit ≡ true → HasShare R nows (with_afters unit nows users') user
-has-share R users users' [] [] [] user apart each same some = absurd cc
-has-share R users users' (share ∷ shares) (ns ∷ lists) (a ∷ nows) user apart each same some =
-    by_here (cases_Bool (share.user == user)) (has-share R users (slice_set users' (place_of share) a) shares lists nows user apart.1 each.1 (still-same users users' (place_of share) a shares apart.0 same.1))
+has-share R cast users' [] [] [] user apart each same some = absurd cc
+has-share R cast users' (share ∷ shares) (ns ∷ lists) (a ∷ nows) user apart each same some =
+    by_here (cases_Bool (share.user == user)) (has-share R cast (slice_set users' (place_of share) a) shares lists nows user apart.1 each.1 (still-same cast.users users' (place_of share) a shares apart.0 same.1))
   where
     new : slice_get (with_afters (share ∷ shares) (a ∷ nows) users') (place_of share) ≡ Some a
     new = after-elsewhere (place_of share) shares nows (slice_set users' (place_of share) a) apart.0 ∙ get-same users' (place_of share) a each.0.0 (same.0 ∙ each.0.1)
@@ -299,9 +299,9 @@ has-share R users users' (share ∷ shares) (ns ∷ lists) (a ∷ nows) user apa
         let later : list_any (is_share_of user) shares ≡ true = ap (λ (b : Bool). b || list_any (is_share_of user) shares) (sym e) ∙ some in
         let r = rest later in
         record { share = r.share; before = r.before; ns = r.ns; now = r.now; is = r.is; order = suc r.order; at = r.at; here = r.here; goes = r.goes }
-has-share R users users' _ _ _ user apart each same some = absurd each
+has-share R cast users' _ _ _ user apart each same some = absurd each
 
--- Shares whose users rise are of different users.
+-- Shares whose cast rise are of different cast.
 
 pub rise-elsewhere : (low place : ℕ) (unit : ScriptUnit) (high : ℕ)
     → Rise low (map (λ (share : UnitShare). share.user) unit) high → place < low

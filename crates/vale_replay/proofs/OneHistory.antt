@@ -11,7 +11,7 @@ use Rattle.vale_entry.specs.Arrivals.{arrivals_of}
 use Rattle.vale_entry.specs.Legal.{Standing, standing_of}
 use Rattle.vale_script.specs.Script.{Program}
 use Rattle.vale_replay.specs.Machine.{Machine, next_call, resting, answered}
-use Rattle.vale_replay.specs.Replay.{UnitShare, ScriptUnit, standing_before, entry_made, TakesTurn, TakesTurns, ReplaysShare, ReplaysUnits, EachShare, ComesTo, is_share_of, with_afters, starting, units_of, users_of}
+use Rattle.vale_replay.specs.Replay.{Cast, UnitShare, ScriptUnit, TakesTurn, TakesTurns, ReplaysShare, ReplaysUnits, EachShare, ComesTo, cast_after, cast_of, entry_made, is_share_of, standing_before, starting, units_of, with_user}
 use Rattle.vale_replay.specs.Laws.{HasNoBlock, PlaysOneHistory, BeginsWith, UnderWayIsBeginning, UnderWayIsOne}
 use Rattle.vale_replay.proofs.Turns.{some-same, entry-same}
 use Rattle.vale_replay.proofs.Units.{Alone, AloneUnits, alone_share, alone-units, alone-so_far, numbers_between, shares_in, units-alone, take-alone, unit-at}
@@ -90,15 +90,15 @@ turns-same pool h k first (suc count) (suc count') m after after' same one other
 
 -- Units.
 
-pub record SameUnits (h k : List Entry) (next next' : List Machine) (last last' : ℕ) : Type 0 where
+pub record SameUnits (h k : List Entry) (next next' : Cast) (last last' : ℕ) : Type 0 where
   pub next_is : next ≡ next'
   pub last_is : last ≡ last'
   pub taken : take last h ≡ take last k
 
-unit-same : (pool : ℕ) (h k : List Entry) (users : List Machine) (first : ℕ) (unit : UnitShare) (next next' : List Machine) (last last' : ℕ)
+unit-same : (pool : ℕ) (h k : List Entry) (cast : Cast) (first : ℕ) (unit : UnitShare) (next next' : Cast) (last last' : ℕ)
     → take first h ≡ take first k
-    → Alone pool h users first unit next last → Alone pool k users first unit next' last' → SameUnits h k next next' last last'
-unit-same pool h k users first unit next next' last last' same one other =
+    → Alone pool h cast first unit next last → Alone pool k cast first unit next' last' → SameUnits h k next next' last last'
+unit-same pool h k cast first unit next next' last last' same one other =
     let before : one.before ≡ other.before = some-same one.before other.before (sym one.here ∙ other.here) in
     let up = one.forward in
     let up' = other.forward in
@@ -109,34 +109,34 @@ unit-same pool h k users first unit next next' last last' same one other =
     (subst (λ (n : ℕ). call-at pool (take n h) one.after ≡ None) (sym ends) one.ended) (subst (λ (n : ℕ). call-at pool (take n k) other.after ≡ None) (sym ends') other.ended) in
     let counts = t.count_is in
     record {
-      next_is = one.others ∙ ap (slice_set users (unit.user - 1)) t.after_is ∙ sym other.others;
+      next_is = one.others ∙ ap (with_user cast unit.user) t.after_is ∙ sym other.others;
       last_is = omega (arith, ends, ends', counts);
       taken = subst (λ (n : ℕ). take n h ≡ take n k) ends t.taken;
     }
 
-units-same : (pool : ℕ) (h k : List Entry) (users : List Machine) (first : ℕ) (units : ScriptUnit) (next next' : List Machine) (last last' : ℕ)
+units-same : (pool : ℕ) (h k : List Entry) (cast : Cast) (first : ℕ) (units : ScriptUnit) (next next' : Cast) (last last' : ℕ)
     → take first h ≡ take first k
-    → AloneUnits pool h users first units next last → AloneUnits pool k users first units next' last' → SameUnits h k next next' last last'
-units-same pool h k users first [] next next' last last' same one other =
+    → AloneUnits pool h cast first units next last → AloneUnits pool k cast first units next' last' → SameUnits h k next next' last last'
+units-same pool h k cast first [] next next' last last' same one other =
     record { next_is = one.0 ∙ sym other.0; last_is = one.1 ∙ sym other.1; taken = subst (λ (n : ℕ). take n h ≡ take n k) (sym one.1) same }
-units-same pool h k users first (unit ∷ units) next next' last last' same one other =
-    let u = unit-same pool h k users first unit one.0 other.0 one.1.0 other.1.0 same one.1.1.0 other.1.1.0 in
+units-same pool h k cast first (unit ∷ units) next next' last last' same one other =
+    let u = unit-same pool h k cast first unit one.0 other.0 one.1.0 other.1.0 same one.1.1.0 other.1.1.0 in
     let back : AloneUnits pool k one.0 one.1.0 units next' last' =
-    subst (λ (us : List Machine). AloneUnits pool k us one.1.0 units next' last') (sym u.next_is) (subst (λ (n : ℕ). AloneUnits pool k other.0 n units next' last') (sym u.last_is) other.1.1.1) in
+    subst (λ (c : Cast). AloneUnits pool k c one.1.0 units next' last') (sym u.next_is) (subst (λ (n : ℕ). AloneUnits pool k other.0 n units next' last') (sym u.last_is) other.1.1.1) in
     units-same pool h k one.0 one.1.0 units next next' last last' u.taken one.1.1.1 back
 
 -- the units of a history that plays a script without blocks
-script-units : (program : Program) (captures : Captures) (h : List Entry) (users : List Machine) (last : ℕ)
+script-units : (program : Program) (captures : Captures) (h : List Entry) (cast : Cast) (last : ℕ)
     → HasNoBlock program
-    → ReplaysUnits program.pool h (users_of program) 0 (units_of program captures) users last → AloneUnits program.pool h (users_of program) 0 (shares_in program captures) users last
-script-units program captures h users last lines units =
-    alone-units program.pool h (users_of program) 0 (shares_in program captures) users last
-    (subst (λ (us : List ScriptUnit). ReplaysUnits program.pool h (users_of program) 0 us users last) (units-alone program captures lines) units)
+    → ReplaysUnits program.pool h (cast_of program) 0 (units_of program captures) cast last → AloneUnits program.pool h (cast_of program) 0 (shares_in program captures) cast last
+script-units program captures h cast last lines units =
+    alone-units program.pool h (cast_of program) 0 (shares_in program captures) cast last
+    (subst (λ (us : List ScriptUnit). ReplaysUnits program.pool h (cast_of program) 0 us cast last) (units-alone program captures lines) units)
 
 pub plays-one : PlaysOneHistory
 plays-one program captures h k lines one other =
-    let u = units-same program.pool h k (users_of program) 0 (shares_in program captures) one.users other.users (length h) (length k) refl
-    (script-units program captures h one.users (length h) lines one.played.units) (script-units program captures k other.users (length k) lines other.played.units) in
+    let u = units-same program.pool h k (cast_of program) 0 (shares_in program captures) one.cast other.cast (length h) (length k) refl
+    (script-units program captures h one.cast (length h) lines one.played.units) (script-units program captures k other.cast (length k) lines other.played.units) in
     sym (take_all (length h) h (omega arith)) ∙ u.taken ∙ ap (λ n. take n k) u.last_is ∙ take_all (length k) k (omega arith)
 
 -- A history under way.
@@ -192,15 +192,15 @@ turns-begin pool h k first (suc count) (suc count') m after now call same one ot
     (subst (λ (n : ℕ). call-at pool (take n h) after ≡ None) more ended) (subst (λ (n : ℕ). call-at pool (take n k) now ≡ Some call) more' called) in
     (rest.0, (subst (λ (n : ℕ). slice_get h n ≡ Some rest.0) (sym more') rest.1.0, (subst (λ (n : ℕ). entry_made (standing_of pool (take n k)) call ≡ Some rest.0) (sym more') rest.1.1.0, subst (λ (n : ℕ). take n h ≡ take n k) (sym more') rest.1.1.1)))
 
-units-begin : (pool : ℕ) (h k : List Entry) (users : List Machine) (first : ℕ) (units : ScriptUnit) (next : List Machine) (last count : ℕ) (unit : UnitShare) (between : List Machine) (from : ℕ) (before now : Machine) (call : Ask)
-    → take first h ≡ take first k → AloneUnits pool h users first units next last → slice_get units count ≡ Some unit → AloneUnits pool k users first (take count units) between from
-    → slice_get between (unit.user - 1) ≡ Some before → from ≤ length k → TakesTurns pool k (starting unit before) (numbers_between from (length k)) now → call-at pool k now ≡ Some call
+units-begin : (pool : ℕ) (h k : List Entry) (cast : Cast) (first : ℕ) (units : ScriptUnit) (next : Cast) (last count : ℕ) (unit : UnitShare) (between : Cast) (from : ℕ) (before now : Machine) (call : Ask)
+    → take first h ≡ take first k → AloneUnits pool h cast first units next last → slice_get units count ≡ Some unit → AloneUnits pool k cast first (take count units) between from
+    → slice_get between.users (unit.user - 1) ≡ Some before → from ≤ length k → TakesTurns pool k (starting unit before) (numbers_between from (length k)) now → call-at pool k now ≡ Some call
     → BeginsWith pool h k call
-units-begin pool h k users first [] next last count unit between from before now call same one there other here up turns called = absurd cc
-units-begin pool h k users first (u ∷ units) next last zero unit between from before now call same one there other here up turns called =
+units-begin pool h k cast first [] next last count unit between from before now call same one there other here up turns called = absurd cc
+units-begin pool h k cast first (u ∷ units) next last zero unit between from before now call same one there other here up turns called =
     let is : u ≡ unit = some-same u unit there in
-    let r : Alone pool h users first unit one.0 one.1.0 = subst (λ (x : UnitShare). Alone pool h users first x one.0 one.1.0) is one.1.1.0 in
-    let same_before : r.before ≡ before = some-same r.before before (sym r.here ∙ ap (λ (us : List Machine). slice_get us (unit.user - 1)) (sym other.0) ∙ here) in
+    let r : Alone pool h cast first unit one.0 one.1.0 = subst (λ (x : UnitShare). Alone pool h cast first x one.0 one.1.0) is one.1.1.0 in
+    let same_before : r.before ≡ before = some-same r.before before (sym r.here ∙ ap (λ (c : Cast). slice_get c.users (unit.user - 1)) (sym other.0) ∙ here) in
     let front = r.forward in
     let from_is : from ≡ first = other.1 in
     let ends : first + (one.1.0 - first) ≡ one.1.0 = omega (arith, front) in
@@ -210,23 +210,23 @@ units-begin pool h k users first (u ∷ units) next last zero unit between from 
     (subst (λ (m : Machine). TakesTurns pool k (starting unit m) (numbers_between first (length k)) now) (sym same_before) (subst (λ (n : ℕ). TakesTurns pool k (starting unit before) (numbers_between n (length k)) now) from_is turns))
     (subst (λ (n : ℕ). call-at pool (take n h) r.after ≡ None) (sym ends) r.ended) (ap (λ (es : List Entry). call-at pool es now) whole ∙ called) in
     begins-by pool h k (first + (length k - first)) t.0 call (t.1.1.1 ∙ whole) t.1.0 (subst (λ (es : List Entry). entry_made (standing_of pool es) call ≡ Some t.0) whole t.1.1.0)
-units-begin pool h k users first (u ∷ units) next last (suc count) unit between from before now call same one there other here up turns called =
-    let s = unit-same pool h k users first u one.0 other.0 one.1.0 other.1.0 same one.1.1.0 other.1.1.0 in
+units-begin pool h k cast first (u ∷ units) next last (suc count) unit between from before now call same one there other here up turns called =
+    let s = unit-same pool h k cast first u one.0 other.0 one.1.0 other.1.0 same one.1.1.0 other.1.1.0 in
     let back : AloneUnits pool k one.0 one.1.0 (take count units) between from =
-    subst (λ (us : List Machine). AloneUnits pool k us one.1.0 (take count units) between from) (sym s.next_is) (subst (λ (n : ℕ). AloneUnits pool k other.0 n (take count units) between from) (sym s.last_is) other.1.1.1) in
+    subst (λ (c : Cast). AloneUnits pool k c one.1.0 (take count units) between from) (sym s.next_is) (subst (λ (n : ℕ). AloneUnits pool k other.0 n (take count units) between from) (sym s.last_is) other.1.1.1) in
     units-begin pool h k one.0 one.1.0 units next last count unit between from before now call s.taken one.1.1.1 there back here up turns called
 
 -- what is under way in a script without blocks: units of one user each, and the user of the next
 -- one
-record OnItsWay (pool : ℕ) (users : List Machine) (shares : ScriptUnit) (h : List Entry) (call : Ask) : Type 0 where
+record OnItsWay (pool : ℕ) (cast : Cast) (shares : ScriptUnit) (h : List Entry) (call : Ask) : Type 0 where
   count : ℕ
   share : UnitShare
   there : slice_get shares count ≡ Some share
-  between : List Machine
+  between : Cast
   from : ℕ
-  units : AloneUnits pool h users 0 (take count shares) between from
+  units : AloneUnits pool h cast 0 (take count shares) between from
   before : Machine
-  here : slice_get between (share.user - 1) ≡ Some before
+  here : slice_get between.users (share.user - 1) ≡ Some before
   within : from ≤ length h
   now : Machine
   turns : TakesTurns pool h (starting share before) (numbers_between from (length h)) now
@@ -248,28 +248,28 @@ user-is user share e = eqb-true share.user user (by_here (share.user == user) e)
 
 on-its-way : (program : Program) (captures : Captures) (h : List Entry) (user : ℕ) (call : Ask)
     → HasNoBlock program → ComesTo program captures h user call
-    → OnItsWay program.pool (users_of program) (shares_in program captures) h call
+    → OnItsWay program.pool (cast_of program) (shares_in program captures) h call
 on-its-way program captures h user call lines comes =
     let r = comes.reached in
     let units = units-alone program captures lines in
     let at = unit-at (shares_in program captures) r.count r.unit (ap (λ (us : List ScriptUnit). slice_get us r.count) (sym units) ∙ r.there) in
     let taken : take r.count (units_of program captures) ≡ map alone_share (take r.count (shares_in program captures)) =
     ap (take r.count) units ∙ take-alone r.count (shares_in program captures) in
-    let so_far = alone-so_far program.pool h r.users r.first (length h) at.share r.lists r.afters r.forward r.split
-    (subst (λ (u : ScriptUnit). EachShare (ReplaysShare program.pool h) r.users u r.lists r.afters) at.is r.replays) in
+    let so_far = alone-so_far program.pool h r.cast r.first (length h) at.share r.lists r.afters r.forward r.split
+    (subst (λ (u : ScriptUnit). EachShare (ReplaysShare program.pool h) r.cast u r.lists r.afters) at.is r.replays) in
     let is : at.share.user ≡ user = user-is user at.share (ap (λ (u : ScriptUnit). list_any (is_share_of user) u) (sym at.is) ∙ comes.of_unit) in
-    let nows : comes.nows ≡ slice_set r.users (at.share.user - 1) so_far.after =
-    r.nows_are ∙ ap (λ (u : ScriptUnit). with_afters u r.afters r.users) at.is ∙ ap (λ (ms : List Machine). with_afters (at.share ∷ []) ms r.users) so_far.afters_are in
-    let found : slice_get (slice_set r.users (at.share.user - 1) so_far.after) (at.share.user - 1) ≡ Some comes.now =
-    ap (λ (us : List Machine). slice_get us (at.share.user - 1)) (sym nows) ∙ ap (λ n. slice_get comes.nows (n - 1)) is ∙ comes.here in
-    let now : so_far.after ≡ comes.now = set-here r.users (at.share.user - 1) so_far.before so_far.after comes.now so_far.here found in
+    let nows : comes.nows ≡ with_user r.cast at.share.user so_far.after =
+    r.nows_are ∙ ap (λ (u : ScriptUnit). cast_after u r.afters r.cast) at.is ∙ ap (λ (ms : List Machine). cast_after (at.share ∷ []) ms r.cast) so_far.afters_are in
+    let found : slice_get (slice_set r.cast.users (at.share.user - 1) so_far.after) (at.share.user - 1) ≡ Some comes.now =
+    ap (λ (c : Cast). slice_get c.users (at.share.user - 1)) (sym nows) ∙ ap (λ n. slice_get comes.nows.users (n - 1)) is ∙ comes.here in
+    let now : so_far.after ≡ comes.now = set-here r.cast.users (at.share.user - 1) so_far.before so_far.after comes.now so_far.here found in
     record {
       count = r.count;
       share = at.share;
       there = at.there;
-      units = alone-units program.pool h (users_of program) 0 (take r.count (shares_in program captures)) r.users r.first
-          (subst (λ (us : List ScriptUnit). ReplaysUnits program.pool h (users_of program) 0 us r.users r.first) taken r.units);
-      between = r.users;
+      units = alone-units program.pool h (cast_of program) 0 (take r.count (shares_in program captures)) r.cast r.first
+          (subst (λ (us : List ScriptUnit). ReplaysUnits program.pool h (cast_of program) 0 us r.cast r.first) taken r.units);
+      between = r.cast;
       from = r.first;
       before = so_far.before;
       here = so_far.here;
@@ -282,8 +282,8 @@ on-its-way program captures h user call lines comes =
 pub under-way : UnderWayIsBeginning
 under-way program captures h k user call lines plays comes =
     let r = on-its-way program captures k user call lines comes in
-    units-begin program.pool h k (users_of program) 0 (shares_in program captures) plays.users (length h) r.count r.share r.between r.from r.before r.now call refl
-    (script-units program captures h plays.users (length h) lines plays.played.units) r.there r.units r.here r.within r.turns r.called
+    units-begin program.pool h k (cast_of program) 0 (shares_in program captures) plays.cast (length h) r.count r.share r.between r.from r.before r.now call refl
+    (script-units program captures h plays.cast (length h) lines plays.played.units) r.there r.units r.here r.within r.turns r.called
 
 -- Two histories under way.
 
@@ -323,47 +323,47 @@ turns-two pool h k first (suc count) (suc count') m now now' call next all all' 
     (subst (λ (x : Machine). TakesTurns pool k x (range_with_len (first + 1 + 1) count') now') (sym t.after_is) other.1.1) called called'
 
 -- a unit whose user still has a call, against one that is whole
-unit-begins : (pool : ℕ) (h k : List Entry) (users next : List Machine) (first last : ℕ) (unit : UnitShare) (before now : Machine) (call : Ask)
-    → take first h ≡ take first k → Alone pool h users first unit next last
-    → slice_get users (unit.user - 1) ≡ Some before → first ≤ length k → TakesTurns pool k (starting unit before) (numbers_between first (length k)) now → call-at pool k now ≡ Some call
+unit-begins : (pool : ℕ) (h k : List Entry) (cast next : Cast) (first last : ℕ) (unit : UnitShare) (before now : Machine) (call : Ask)
+    → take first h ≡ take first k → Alone pool h cast first unit next last
+    → slice_get cast.users (unit.user - 1) ≡ Some before → first ≤ length k → TakesTurns pool k (starting unit before) (numbers_between first (length k)) now → call-at pool k now ≡ Some call
     → BeginsWith pool h k call
-unit-begins pool h k users next first last unit before now call same whole here up turns called =
-    units-begin pool h k users first (unit ∷ []) next last 0 unit users first before now call same (next, (last, (whole, (refl, refl)))) refl (refl, refl) here up turns called
+unit-begins pool h k cast next first last unit before now call same whole here up turns called =
+    units-begin pool h k cast first (unit ∷ []) next last 0 unit cast first before now call same (next, (last, (whole, (refl, refl)))) refl (refl, refl) here up turns called
 
-units-two : (pool : ℕ) (h k : List Entry) (users : List Machine) (first : ℕ) (units : ScriptUnit) (count count' : ℕ) (unit unit' : UnitShare) (between between' : List Machine) (from from' : ℕ) (before before' now now' : Machine) (call next : Ask)
+units-two : (pool : ℕ) (h k : List Entry) (cast : Cast) (first : ℕ) (units : ScriptUnit) (count count' : ℕ) (unit unit' : UnitShare) (between between' : Cast) (from from' : ℕ) (before before' now now' : Machine) (call next : Ask)
     → take first h ≡ take first k
-    → slice_get units count ≡ Some unit → AloneUnits pool h users first (take count units) between from → slice_get between (unit.user - 1) ≡ Some before → from ≤ length h → TakesTurns pool h (starting unit before) (numbers_between from (length h)) now → call-at pool h now ≡ Some call
-    → slice_get units count' ≡ Some unit' → AloneUnits pool k users first (take count' units) between' from' → slice_get between' (unit'.user - 1) ≡ Some before' → from' ≤ length k → TakesTurns pool k (starting unit' before') (numbers_between from' (length k)) now' → call-at pool k now' ≡ Some next
+    → slice_get units count ≡ Some unit → AloneUnits pool h cast first (take count units) between from → slice_get between.users (unit.user - 1) ≡ Some before → from ≤ length h → TakesTurns pool h (starting unit before) (numbers_between from (length h)) now → call-at pool h now ≡ Some call
+    → slice_get units count' ≡ Some unit' → AloneUnits pool k cast first (take count' units) between' from' → slice_get between'.users (unit'.user - 1) ≡ Some before' → from' ≤ length k → TakesTurns pool k (starting unit' before') (numbers_between from' (length k)) now' → call-at pool k now' ≡ Some next
     → OneOrBegun pool h k call next
-units-two pool h k users first [] count count' unit unit' between between' from from' before before' now now' call next same there one here up turns called there' other here' up' turns' called' = absurd cc
-units-two pool h k users first (u ∷ units) zero zero unit unit' between between' from from' before before' now now' call next same there one here up turns called there' other here' up' turns' called' =
+units-two pool h k cast first [] count count' unit unit' between between' from from' before before' now now' call next same there one here up turns called there' other here' up' turns' called' = absurd cc
+units-two pool h k cast first (u ∷ units) zero zero unit unit' between between' from from' before before' now now' call next same there one here up turns called there' other here' up' turns' called' =
     let is : unit ≡ unit' = some-same unit unit' (sym there ∙ there') in
-    let same_before : before ≡ before' = some-same before before' (sym here ∙ ap (λ (us : List Machine). slice_get us (unit.user - 1)) (one.0 ∙ sym other.0) ∙ ap (λ (x : UnitShare). slice_get between' (x.user - 1)) is ∙ here') in
+    let same_before : before ≡ before' = some-same before before' (sym here ∙ ap (λ (c : Cast). slice_get c.users (unit.user - 1)) (one.0 ∙ sym other.0) ∙ ap (λ (x : UnitShare). slice_get between'.users (x.user - 1)) is ∙ here') in
     let from_is : from ≡ first = one.1 in
     let from_is' : from' ≡ first = other.1 in
     turns-two pool h k first (length h - first) (length k - first) (starting unit before) now now' call next (omega (arith, up, from_is)) (omega (arith, up', from_is')) same
     (subst (λ (n : ℕ). TakesTurns pool h (starting unit before) (numbers_between n (length h)) now) from_is turns)
     (subst (λ (m : Machine). TakesTurns pool k (starting unit m) (numbers_between first (length k)) now') (sym same_before) (subst (λ (x : UnitShare). TakesTurns pool k (starting x before') (numbers_between first (length k)) now') (sym is) (subst (λ (n : ℕ). TakesTurns pool k (starting unit' before') (numbers_between n (length k)) now') from_is' turns')))
     called called'
-units-two pool h k users first (u ∷ units) zero (suc count') unit unit' between between' from from' before before' now now' call next same there one here up turns called there' other here' up' turns' called' =
+units-two pool h k cast first (u ∷ units) zero (suc count') unit unit' between between' from from' before before' now now' call next same there one here up turns called there' other here' up' turns' called' =
     let is : u ≡ unit = some-same u unit there in
     let from_is : from ≡ first = one.1 in
-    inr (inr (unit-begins pool k h users other.0 first other.1.0 unit before now call (sym same) (subst (λ (x : UnitShare). Alone pool k users first x other.0 other.1.0) is other.1.1.0)
-    (ap (λ (us : List Machine). slice_get us (unit.user - 1)) (sym one.0) ∙ here) (omega (arith, up, from_is)) (subst (λ (n : ℕ). TakesTurns pool h (starting unit before) (numbers_between n (length h)) now) from_is turns) called))
-units-two pool h k users first (u ∷ units) (suc count) zero unit unit' between between' from from' before before' now now' call next same there one here up turns called there' other here' up' turns' called' =
+    inr (inr (unit-begins pool k h cast other.0 first other.1.0 unit before now call (sym same) (subst (λ (x : UnitShare). Alone pool k cast first x other.0 other.1.0) is other.1.1.0)
+    (ap (λ (c : Cast). slice_get c.users (unit.user - 1)) (sym one.0) ∙ here) (omega (arith, up, from_is)) (subst (λ (n : ℕ). TakesTurns pool h (starting unit before) (numbers_between n (length h)) now) from_is turns) called))
+units-two pool h k cast first (u ∷ units) (suc count) zero unit unit' between between' from from' before before' now now' call next same there one here up turns called there' other here' up' turns' called' =
     let is : u ≡ unit' = some-same u unit' there' in
     let from_is : from' ≡ first = other.1 in
-    inr (inl (unit-begins pool h k users one.0 first one.1.0 unit' before' now' next same (subst (λ (x : UnitShare). Alone pool h users first x one.0 one.1.0) is one.1.1.0)
-    (ap (λ (us : List Machine). slice_get us (unit'.user - 1)) (sym other.0) ∙ here') (omega (arith, up', from_is)) (subst (λ (n : ℕ). TakesTurns pool k (starting unit' before') (numbers_between n (length k)) now') from_is turns') called'))
-units-two pool h k users first (u ∷ units) (suc count) (suc count') unit unit' between between' from from' before before' now now' call next same there one here up turns called there' other here' up' turns' called' =
-    let s = unit-same pool h k users first u one.0 other.0 one.1.0 other.1.0 same one.1.1.0 other.1.1.0 in
+    inr (inl (unit-begins pool h k cast one.0 first one.1.0 unit' before' now' next same (subst (λ (x : UnitShare). Alone pool h cast first x one.0 one.1.0) is one.1.1.0)
+    (ap (λ (c : Cast). slice_get c.users (unit'.user - 1)) (sym other.0) ∙ here') (omega (arith, up', from_is)) (subst (λ (n : ℕ). TakesTurns pool k (starting unit' before') (numbers_between n (length k)) now') from_is turns') called'))
+units-two pool h k cast first (u ∷ units) (suc count) (suc count') unit unit' between between' from from' before before' now now' call next same there one here up turns called there' other here' up' turns' called' =
+    let s = unit-same pool h k cast first u one.0 other.0 one.1.0 other.1.0 same one.1.1.0 other.1.1.0 in
     let back : AloneUnits pool k one.0 one.1.0 (take count' units) between' from' =
-    subst (λ (us : List Machine). AloneUnits pool k us one.1.0 (take count' units) between' from') (sym s.next_is) (subst (λ (n : ℕ). AloneUnits pool k other.0 n (take count' units) between' from') (sym s.last_is) other.1.1.1) in
+    subst (λ (c : Cast). AloneUnits pool k c one.1.0 (take count' units) between' from') (sym s.next_is) (subst (λ (n : ℕ). AloneUnits pool k other.0 n (take count' units) between' from') (sym s.last_is) other.1.1.1) in
     units-two pool h k one.0 one.1.0 units count count' unit unit' between between' from from' before before' now now' call next s.taken there one.1.1.1 here up turns called there' back here' up' turns' called'
 
 pub under-way-one : UnderWayIsOne
 under-way-one program captures h k user call next_user next lines one other =
     let r = on-its-way program captures h user call lines one in
     let r' = on-its-way program captures k next_user next lines other in
-    units-two program.pool h k (users_of program) 0 (shares_in program captures) r.count r'.count r.share r'.share r.between r'.between r.from r'.from r.before r'.before r.now r'.now call next refl
+    units-two program.pool h k (cast_of program) 0 (shares_in program captures) r.count r'.count r.share r'.share r.between r'.between r.from r'.from r.before r'.before r.now r'.now call next refl
     r.there r.units r.here r.within r.turns r.called r'.there r'.units r'.here r'.within r'.turns r'.called

@@ -25,7 +25,7 @@ use Rattle.vale_own.specs.Side.{IsTxRingIf, IsSoundPort}
 use Rattle.vale_script.specs.Script.{Program}
 use Rattle.vale_replay.specs.Tasks.{Captures}
 use Rattle.vale_replay.specs.Machine.{Machine}
-use Rattle.vale_replay.specs.Replay.{IsUnderWay}
+use Rattle.vale_replay.specs.Replay.{Cast, IsUnderWay}
 use Rattle.vale_replay.specs.Owners.{Owner, Pool, KernelSlot, Lease, UserSlot, ExtraList, owner_of_each, owners_of_lots, owners_at, user_places, kernel_places, owners_of_tx, owners_of_port, owners_of_user, owners_of, buffers_of_user, BuffersHaveOneOwner, BuffersAlwaysHaveOneOwner}
 use Rattle.vale_replay.proofs.Numbers.{rise-above}
 use Rattle.vale_replay.proofs.Legal.{played-legal}
@@ -276,8 +276,8 @@ rise-once low (n ∷ ns) high b rise = by_here (cases_Bool (n == b)) (rise-once 
         let all : count_of b (n ∷ ns) ≡ 0 + count_of b ns = count_of-cons b n ns ∙ ap (λ (t : Bool). cond t 1 0 + count_of b ns) e in
         omega (arith, all, rest)
 
-sessions-same : (program : Program) (captures : Captures) (h : List Entry) (nows : List Machine) (x : ℕ)
-    → IsUnderWay program captures h nows → count_of x (sessions_in nows) ≡ count_of x (standing_of program.pool h).world.sessions
+sessions-same : (program : Program) (captures : Captures) (h : List Entry) (nows : Cast) (x : ℕ)
+    → IsUnderWay program captures h nows → count_of x (sessions_in nows.users) ≡ count_of x (standing_of program.pool h).world.sessions
 sessions-same program captures h nows x way = by_there (is_session w x) refl
   where
     w : World
@@ -286,7 +286,7 @@ sessions-same program captures h nows x way = by_there (is_session w x) refl
     stands : StandsOnSides program.pool h nows
     stands = users-sides program captures h nows way
 
-    no_user : is_session w x ≡ false → (who : HasSession nows x) → ⊥
+    no_user : is_session w x ≡ false → (who : HasSession nows.users x) → ⊥
     no_user none who = by_side (stands.sides who.place who.user who.here)
       where
         by_side : (shut : Option ℕ) × SideOf program.pool (standing_of program.pool h) who.user.session shut who.user.own → ⊥
@@ -296,21 +296,21 @@ sessions-same program captures h nows x way = by_there (is_session w x) refl
             let clash : true ≡ false = sym there ∙ none in
             absurd cc
 
-    by_count : is_session w x ≡ false → (0 < count_of x (sessions_in nows)) ⊎ (count_of x (sessions_in nows) ≤ 0)
-        → count_of x (sessions_in nows) ≡ 0
-    by_count none (inl some) = absurd (no_user none (some-user nows x (omega (arith, some))))
+    by_count : is_session w x ≡ false → (0 < count_of x (sessions_in nows.users)) ⊎ (count_of x (sessions_in nows.users) ≤ 0)
+        → count_of x (sessions_in nows.users) ≡ 0
+    by_count none (inl some) = absurd (no_user none (some-user nows.users x (omega (arith, some))))
     by_count none (inr few) = omega (arith, few)
 
-    by_there : (b : Bool) → is_session w x ≡ b → count_of x (sessions_in nows) ≡ count_of x w.sessions
+    by_there : (b : Bool) → is_session w x ≡ b → count_of x (sessions_in nows.users) ≡ count_of x w.sessions
     by_there true there =
         let who = session-of-user program captures h nows x way there in
-        let some = user-counts nows x who.place who.user who.here who.is in
-        let few = few-users nows x (λ i j u v at at' is is'. stands.cast.one i j u v (record { 0 = x }) at at' is is') in
+        let some = user-counts nows.users x who.place who.user who.here who.is in
+        let few = few-users nows.users x (λ i j u v at at' is is'. stands.come.one i j u v (record { 0 = x }) at at' is is') in
         let some' = contains-count x w.sessions there in
         let few' = rise-once 0 w.sessions w.entry_count x (world-numbered program.pool h).sessions_rise in
         omega (arith, some, few, some', few')
     by_there false none =
-        by_count none (cases_lt 0 (count_of x (sessions_in nows))) ∙ sym (contains-none x w.sessions none)
+        by_count none (cases_lt 0 (count_of x (sessions_in nows.users))) ∙ sym (contains-none x w.sessions none)
 
 -- Together.
 
@@ -342,12 +342,12 @@ owned-once program captures h nows way b =
     ports : length (owners_at b s.world.ports x.ports) ≡ count_of b (flat_map buffers_at_port x.ports)
     ports = ports-owned b s.world.ports x.ports (holdings-agree program.pool h legal).ports_agree
 
-    users : length (flat_map (owners_of_user b) nows) ≡ sum_by (times_held b x.sessions) (sessions_in nows)
-    users = users-owned b s nows (each-from (λ (u : Machine). length (owners_of_user b u) ≡ count_of b (buffers_of_user s u)) nows
+    users : length (flat_map (owners_of_user b) nows.users) ≡ sum_by (times_held b x.sessions) (sessions_in nows.users)
+    users = users-owned b s nows.users (each-from (λ (u : Machine). length (owners_of_user b u) ≡ count_of b (buffers_of_user s u)) nows.users
         (λ i u at. let side = stands.sides i u at in user-owned program.pool s u u.session side.0 b refl side.1))
 
-    same : sum_by (times_held b x.sessions) (sessions_in nows) ≡ sum_by (times_held b x.sessions) ids
-    same = sum-same (times_held b x.sessions) (sessions_in nows) ids (λ z. sessions-same program captures h nows z way ∙ ap (count_of z) (sym ids_are))
+    same : sum_by (times_held b x.sessions) (sessions_in nows.users) ≡ sum_by (times_held b x.sessions) ids
+    same = sum-same (times_held b x.sessions) (sessions_in nows.users) ids (λ z. sessions-same program captures h nows z way ∙ ap (count_of z) (sym ids_are))
 
     held : sum_by (times_held b x.sessions) ids ≡ count_of b (flat_map buffers_held x.sessions)
     held = sessions-held b x.sessions 0 s.world.entry_count (subst (λ (ns : List ℕ). Rise 0 ns s.world.entry_count) (sym ids_are) (world-numbered program.pool h).sessions_rise)
@@ -355,11 +355,11 @@ owned-once program captures h nows way b =
     parted : count_of b ((x.free ++ flat_map buffers_at_port x.ports) ++ flat_map buffers_held x.sessions) ≡ cond (is_buffer_index program.pool b) 1 0
     parted = buffers-parted program.pool h legal b
 
-    front : length (owners_of s nows b) ≡ length (owner_of_each b Pool x.free) + length (owners_at b s.world.ports x.ports ++ flat_map (owners_of_user b) nows)
-    front = length-append (owner_of_each b Pool x.free) (owners_at b s.world.ports x.ports ++ flat_map (owners_of_user b) nows)
+    front : length (owners_of s nows.users b) ≡ length (owner_of_each b Pool x.free) + length (owners_at b s.world.ports x.ports ++ flat_map (owners_of_user b) nows.users)
+    front = length-append (owner_of_each b Pool x.free) (owners_at b s.world.ports x.ports ++ flat_map (owners_of_user b) nows.users)
 
-    back : length (owners_at b s.world.ports x.ports ++ flat_map (owners_of_user b) nows) ≡ length (owners_at b s.world.ports x.ports) + length (flat_map (owners_of_user b) nows)
-    back = length-append (owners_at b s.world.ports x.ports) (flat_map (owners_of_user b) nows)
+    back : length (owners_at b s.world.ports x.ports ++ flat_map (owners_of_user b) nows.users) ≡ length (owners_at b s.world.ports x.ports) + length (flat_map (owners_of_user b) nows.users)
+    back = length-append (owners_at b s.world.ports x.ports) (flat_map (owners_of_user b) nows.users)
 
     counted : count_of b ((x.free ++ flat_map buffers_at_port x.ports) ++ flat_map buffers_held x.sessions) ≡ count_of b (x.free ++ flat_map buffers_at_port x.ports) + count_of b (flat_map buffers_held x.sessions)
     counted = count_of-append b (x.free ++ flat_map buffers_at_port x.ports) (flat_map buffers_held x.sessions)

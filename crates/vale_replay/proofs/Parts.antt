@@ -11,13 +11,13 @@ use Rattle.vale_entry.proofs.Counting.{count_of, count_of-cons}
 use Rattle.vale_own.proofs.OwnKept.{legal-split}
 use Rattle.vale_replay.specs.Tasks.{Task, Arrive}
 use Rattle.vale_replay.specs.Machine.{Machine, settling_call, call_of_task, call_of_tasks, after_task, at_rest, answered}
-use Rattle.vale_replay.specs.Replay.{UnitShare, ScriptUnit, TakesTurns, EachShare, ReplaysShare, ReplaysUnit, ReplaysUnits, AreSplit, NeedsNoCall, last_of, last_behind, standing_before, starting, times_among, units_of, users_of}
+use Rattle.vale_replay.specs.Replay.{Cast, UnitShare, ScriptUnit, TakesTurns, EachShare, ReplaysShare, ReplaysUnit, ReplaysUnits, AreSplit, NeedsNoCall, cast_of, last_behind, last_of, standing_before, starting, times_among, units_of}
 use Rattle.vale_replay.specs.Joined.{PlaysShare, IsWithin, TurnsOfUnit, TurnsOfUnits, PlayedIsOfTurns, lists_in}
 use Rattle.vale_replay.proofs.Numbers.{rise-past, rise-cut}
 use Rattle.vale_replay.proofs.Legal.{played-legal}
 use Rattle.vale_replay.proofs.Sessions.{IsOwnSession, starting-same, own-after}
 use Rattle.vale_replay.proofs.Members.{AreApart, IsElsewhere, place_of, numbers_at, few-one, among-cons, each-weaker}
-use Rattle.vale_replay.proofs.Joins.{Cast, settles-same, OwesNothing, cast-next, split-in, split-has, split-below, split-from, last-counted, needs-owes, owes-needs, among-append, units-apart, first-cast}
+use Rattle.vale_replay.proofs.Joins.{HaveCome, settles-same, OwesNothing, come-next, split-in, split-has, split-below, split-from, last-counted, needs-owes, owes-needs, among-append, units-apart, first-come}
 use Rattle.vale_replay.proofs.Sides.{AreForeign, each-with, foreign-at, or-second}
 
 -- A user that has gone as far as it can has no task, or one that needs a call.
@@ -99,12 +99,12 @@ share-plays pool h first last share before ns after legal foreign inside r ended
 
 -- Each share with its place among the lists.
 
-abbrev pub IsNumbered : List Machine → ScriptUnit → List (List ℕ) → UnitShare → Machine → List ℕ → Type 0
-IsNumbered users unit lists share before ns =
-    (numbers_at (place_of share) unit lists ≡ ns) × (slice_get users (place_of share) ≡ Some before)
+abbrev pub IsNumbered : Cast → ScriptUnit → List (List ℕ) → UnitShare → Machine → List ℕ → Type 0
+IsNumbered cast unit lists share before ns =
+    (numbers_at (place_of share) unit lists ≡ ns) × (slice_get cast.users (place_of share) ≡ Some before)
 
-abbrev pub WithPlace : (UnitShare → Machine → List ℕ → Machine → Type 0) → List Machine → ScriptUnit → List (List ℕ) → UnitShare → Machine → List ℕ → Machine → Type 0
-WithPlace R users unit lists share before ns after = R share before ns after × IsNumbered users unit lists share before ns
+abbrev pub WithPlace : (UnitShare → Machine → List ℕ → Machine → Type 0) → Cast → ScriptUnit → List (List ℕ) → UnitShare → Machine → List ℕ → Machine → Type 0
+WithPlace R cast unit lists share before ns after = R share before ns after × IsNumbered cast unit lists share before ns
 
 abbrev pub Anywhere : Machine → Type 0
 Anywhere user = Unit {0}
@@ -113,10 +113,10 @@ pub everywhere : (users : List Machine) → AllByRecursion Anywhere users
 everywhere [] = tt
 everywhere (u ∷ users) = (tt, everywhere users)
 
-later-place : (R : UnitShare → Machine → List ℕ → Machine → Type 0) (users : List Machine) (first : UnitShare) (shares : ScriptUnit) (ns : List ℕ) (lists : List (List ℕ)) (share : UnitShare) (before : Machine) (ms : List ℕ) (after : Machine)
-    → IsElsewhere (place_of first) share → WithPlace R users shares lists share before ms after
-    → WithPlace R users (first ∷ shares) (ns ∷ lists) share before ms after
-later-place R users first shares ns lists share before ms after away w =
+later-place : (R : UnitShare → Machine → List ℕ → Machine → Type 0) (cast : Cast) (first : UnitShare) (shares : ScriptUnit) (ns : List ℕ) (lists : List (List ℕ)) (share : UnitShare) (before : Machine) (ms : List ℕ) (after : Machine)
+    → IsElsewhere (place_of first) share → WithPlace R cast shares lists share before ms after
+    → WithPlace R cast (first ∷ shares) (ns ∷ lists) share before ms after
+later-place R cast first shares ns lists share before ms after away w =
     (w.0, (ap (λ (b : Bool). cond b ns (numbers_at (place_of share) shares lists)) miss ∙ w.1.0, w.1.1))
   where
     miss : (place_of first == place_of share) ≡ false
@@ -125,16 +125,16 @@ later-place R users first shares ns lists share before ms after away w =
         clash : (place_of share == place_of first) ≡ true → ⊥
         clash hit = let both : true ≡ false = sym hit ∙ away in absurd cc
 
-pub each-placed : (R : UnitShare → Machine → List ℕ → Machine → Type 0) (users : List Machine) (unit : ScriptUnit) (lists : List (List ℕ)) (afters : List Machine)
-    → AreApart unit → EachShare R users unit lists afters → EachShare (WithPlace R users unit lists) users unit lists afters
-each-placed R users [] [] [] apart each = tt
-each-placed R users (share ∷ shares) (ns ∷ lists) (a ∷ afters) apart each = (
+pub each-placed : (R : UnitShare → Machine → List ℕ → Machine → Type 0) (cast : Cast) (unit : ScriptUnit) (lists : List (List ℕ)) (afters : List Machine)
+    → AreApart unit → EachShare R cast unit lists afters → EachShare (WithPlace R cast unit lists) cast unit lists afters
+each-placed R cast [] [] [] apart each = tt
+each-placed R cast (share ∷ shares) (ns ∷ lists) (a ∷ afters) apart each = (
   (each.0.0, each.0.1, (each.0.2, (ap (λ (b : Bool). cond b ns (numbers_at (place_of share) shares lists)) (eq-eqb (place_of share) (place_of share) refl), each.0.1))),
-  each-weaker (λ (s : UnitShare) (b : Machine) (ms : List ℕ) (m : Machine). WithPlace R users shares lists s b ms m × (IsElsewhere (place_of share) s × Anywhere m)) (WithPlace R users (share ∷ shares) (ns ∷ lists)) users shares lists afters
-      (λ s b ms m w. later-place R users share shares ns lists s b ms m w.1.0 w.0)
-      (each-with (WithPlace R users shares lists) (IsElsewhere (place_of share)) Anywhere users shares lists afters apart.0 (everywhere afters) (each-placed R users shares lists afters apart.1 each.1)),
+  each-weaker (λ (s : UnitShare) (b : Machine) (ms : List ℕ) (m : Machine). WithPlace R cast shares lists s b ms m × (IsElsewhere (place_of share) s × Anywhere m)) (WithPlace R cast (share ∷ shares) (ns ∷ lists)) cast shares lists afters
+      (λ s b ms m w. later-place R cast share shares ns lists s b ms m w.1.0 w.0)
+      (each-with (WithPlace R cast shares lists) (IsElsewhere (place_of share)) Anywhere cast shares lists afters apart.0 (everywhere afters) (each-placed R cast shares lists afters apart.1 each.1)),
 )
-each-placed R users _ _ _ apart each = absurd each
+each-placed R cast _ _ _ apart each = absurd each
 
 -- One unit.
 
@@ -158,27 +158,27 @@ all-shares : (unit : ScriptUnit) → AllByRecursion (λ (share : UnitShare). Uni
 all-shares [] = tt
 all-shares (share ∷ shares) = (tt, all-shares shares)
 
-unit-turns : (pool : ℕ) (h : List Entry) (users : List Machine) (first : ℕ) (unit : ScriptUnit) (next : List Machine) (last : ℕ)
-    → AreApart unit → Cast first users → IsLegal pool (take last h)
-    → (one : ReplaysUnit pool h users first unit next last) → TurnsOfUnit pool h users first unit one.lists next last
-unit-turns pool h users first unit next last apart cast legal one = record {
+unit-turns : (pool : ℕ) (h : List Entry) (cast : Cast) (first : ℕ) (unit : ScriptUnit) (next : Cast) (last : ℕ)
+    → AreApart unit → HaveCome first cast → IsLegal pool (take last h)
+    → (one : ReplaysUnit pool h cast first unit next last) → TurnsOfUnit pool h cast first unit one.lists next last
+unit-turns pool h cast first unit next last apart come legal one = record {
   afters = one.afters;
   forward = one.forward;
-  plays = each-weaker Known (PlaysShare pool h) users unit one.lists one.afters plays
-      (each-with (WithPlace (ReplaysShare pool h) users unit one.lists) (λ (share : UnitShare). Unit {0}) (NeedsNoCall pool (take last h)) users unit one.lists one.afters (all-shares unit) one.ended
-      (each-placed (ReplaysShare pool h) users unit one.lists one.afters apart one.replays));
+  plays = each-weaker Known (PlaysShare pool h) cast unit one.lists one.afters plays
+      (each-with (WithPlace (ReplaysShare pool h) cast unit one.lists) (λ (share : UnitShare). Unit {0}) (NeedsNoCall pool (take last h)) cast unit one.lists one.afters (all-shares unit) one.ended
+      (each-placed (ReplaysShare pool h) cast unit one.lists one.afters apart one.replays));
   inside = inside-lists first last one.lists (λ b some. split-in first last one.lists b one.split some);
   others = one.others;
 }
   where
     Known : UnitShare → Machine → List ℕ → Machine → Type 0
     Known share before ns after =
-        WithPlace (ReplaysShare pool h) users unit one.lists share before ns after × (Unit {0} × NeedsNoCall pool (take last h) after)
+        WithPlace (ReplaysShare pool h) cast unit one.lists share before ns after × (Unit {0} × NeedsNoCall pool (take last h) after)
 
     plays : (share : UnitShare) (before : Machine) (ns : List ℕ) (after : Machine) → Known share before ns after → PlaysShare pool h share before ns after
     plays share before ns after known =
         share-plays pool h first last share before ns after legal
-        (subst (λ (ms : List ℕ). AreForeign h ms first last before.session) known.0.1.0 (foreign-at pool h users first unit one.lists one.afters last (place_of share) before apart one.replays one.split cast known.0.1.1))
+        (subst (λ (ms : List ℕ). AreForeign h ms first last before.session) known.0.1.0 (foreign-at pool h cast first unit one.lists one.afters last (place_of share) before apart one.replays one.split come known.0.1.1))
         (λ b some. split-in first last one.lists b one.split (among b some)) known.0.0 known.1.1
       where
         among : (b : ℕ) → 1 ≤ count_of b ns → 1 ≤ times_among b one.lists
@@ -189,9 +189,9 @@ unit-turns pool h users first unit next last apart cast legal one = record {
 
 -- Units one after another.
 
-record AreTurns (pool : ℕ) (h : List Entry) (users : List Machine) (first : ℕ) (units : List ScriptUnit) (next : List Machine) (last : ℕ) : Type 0 where
+record AreTurns (pool : ℕ) (h : List Entry) (cast : Cast) (first : ℕ) (units : List ScriptUnit) (next : Cast) (last : ℕ) : Type 0 where
   lists : List (List (List ℕ))
-  turns : TurnsOfUnits pool h users first units lists next last
+  turns : TurnsOfUnits pool h cast first units lists next last
   split : AreSplit first last (lists_in lists)
   forward : first ≤ last
 
@@ -239,29 +239,29 @@ split-both first number last lists more low high front back = split-from first l
         let all = among-append b lists more in
         omega (arith, one, two, all)
 
-units-turns : (pool : ℕ) (h : List Entry) (users : List Machine) (first : ℕ) (units : List ScriptUnit) (next : List Machine) (last : ℕ)
+units-turns : (pool : ℕ) (h : List Entry) (cast : Cast) (first : ℕ) (units : List ScriptUnit) (next : Cast) (last : ℕ)
     → AllByRecursion AreApart units → ((n : ℕ) → n ≤ length h → IsLegal pool (take n h))
-    → Cast first users → ReplaysUnits pool h users first units next last → AreTurns pool h users first units next last
-units-turns pool h users first [] next last apart legal cast r =
+    → HaveCome first cast → ReplaysUnits pool h cast first units next last → AreTurns pool h cast first units next last
+units-turns pool h cast first [] next last apart legal come r =
     let same : last ≡ first = r.1 in
     record { lists = []; turns = r; split = split-none first last same; forward = omega (arith, same) }
-units-turns pool h users first (unit ∷ units) next last apart legal cast r =
-    let one : ReplaysUnit pool h users first unit r.0 r.1.0 = r.1.1.0 in
-    let cast' : Cast r.1.0 r.0 = subst (Cast r.1.0) (sym one.others) (cast-next pool h users first unit one.lists one.afters r.1.0 apart.0 one.replays one.split one.forward cast) in
-    let rest = units-turns pool h r.0 r.1.0 units next last apart.1 legal cast' r.1.1.1 in
+units-turns pool h cast first (unit ∷ units) next last apart legal come r =
+    let one : ReplaysUnit pool h cast first unit r.0 r.1.0 = r.1.1.0 in
+    let come_on : HaveCome r.1.0 r.0 = subst (HaveCome r.1.0) (sym one.others) (come-next pool h cast first unit one.lists one.afters r.1.0 apart.0 one.replays one.split one.forward come) in
+    let rest = units-turns pool h r.0 r.1.0 units next last apart.1 legal come_on r.1.1.1 in
     let low = one.forward in
     let high = rest.forward in
     record {
       lists = one.lists ∷ rest.lists;
-      turns = (r.0, (r.1.0, (unit-turns pool h users first unit r.0 r.1.0 apart.0 cast (legal r.1.0 one.within) one, rest.turns)));
+      turns = (r.0, (r.1.0, (unit-turns pool h cast first unit r.0 r.1.0 apart.0 come (legal r.1.0 one.within) one, rest.turns)));
       split = split-both first r.1.0 last one.lists (lists_in rest.lists) one.forward rest.forward one.split rest.split;
       forward = omega (arith, low, high);
     }
 
 pub played-of-turns : PlayedIsOfTurns
-played-of-turns program captures h users played =
-    let all = units-turns program.pool h (users_of program) 0 (units_of program captures) users (length h) (units-apart program captures) legal (first-cast program) played.units in
+played-of-turns program captures h cast played =
+    let all = units-turns program.pool h (cast_of program) 0 (units_of program captures) cast (length h) (units-apart program captures) legal (first-come program) played.units in
     (all.lists, (record { files = played.files; turns = all.turns }, all.split))
   where
     legal : (n : ℕ) → n ≤ length h → IsLegal program.pool (take n h)
-    legal n within = (legal-split program.pool (take n h) (drop n h) (subst (IsLegal program.pool) (sym (take-append-drop n h)) (played-legal program captures h users (inl played)))).0
+    legal n within = (legal-split program.pool (take n h) (drop n h) (subst (IsLegal program.pool) (sym (take-append-drop n h)) (played-legal program captures h cast (inl played)))).0

@@ -25,14 +25,14 @@ use Rattle.vale_script.specs.declared.script.Unit.TheVariants as parts
 use Rattle.vale_script.specs.Script.{Program}
 use Rattle.vale_replay.specs.Tasks.{Captures, Task, FinishPort, records_of}
 use Rattle.vale_replay.specs.Machine.{Machine, new_machine, settling_call, call_of_task, call_of_tasks}
-use Rattle.vale_replay.specs.Replay.{UnitShare, ScriptUnit, TakesTurn, TakesTurns, EachShare, ReplaysShare, ReplaysUnit, ReplaysUnits, AreSplit, NeedsNoCall, HasPlayed, Reaches, IsUnderWay, times_among, acts_of, has_line, share_of, shares_of, closing_unit, starting, user_count, units_of, users_of, with_afters}
+use Rattle.vale_replay.specs.Replay.{Cast, UnitShare, ScriptUnit, TakesTurn, TakesTurns, EachShare, ReplaysShare, ReplaysUnit, ReplaysUnits, AreSplit, NeedsNoCall, HasPlayed, Reaches, IsUnderWay, acts_of, cast_of, closing_unit, has_line, share_of, shares_of, starting, times_among, units_of, user_count, with_afters}
 use Rattle.vale_replay.specs.Owners.{HoldsItsOwn, UsersHoldTheirOwn, times_in}
 use Rattle.vale_replay.proofs.Numbers.{rise-low, rise-above}
 use Rattle.vale_replay.proofs.Turns.{some-same}
 use Rattle.vale_replay.proofs.Legal.{played-legal}
 use Rattle.vale_replay.proofs.Sessions.{IsOwnSession, own-back, own-entry, starting-same, turn-on}
 use Rattle.vale_replay.proofs.Members.{AreApart, Member, HasMember, numbers_at, few-one, member, has-member}
-use Rattle.vale_replay.proofs.Joins.{Cast, cast-next, sessions-apart, split-has, split-in, others-from, units-apart, take-apart, apart-at, first-cast}
+use Rattle.vale_replay.proofs.Joins.{HaveCome, come-next, sessions-apart, split-has, split-in, others-from, units-apart, take-apart, apart-at, first-come}
 use Rattle.vale_replay.proofs.OneState.{narrow, from-first}
 use Rattle.vale_replay.proofs.Owing.{owed_turns, owed-same, settled-owes}
 use Rattle.vale_replay.proofs.TaskSides.{SideOf, ArePaired, AreInOrder, KeepsSide, rest-side, lines-paired, closing-paired}
@@ -145,36 +145,36 @@ IsPairedShare share = (m : Machine) → ArePaired (share.tasks m)
 abbrev WithBoth : ℕ → List Entry → (Machine → Type 0) → UnitShare → Machine → List ℕ → Machine → Type 0
 WithBoth pool h Q share before ns after = ReplaysShare pool h share before ns after × (IsPairedShare share × Q after)
 
-pub each-with : (R : UnitShare → Machine → List ℕ → Machine → Type 0) (P : UnitShare → Type 0) (Q : Machine → Type 0) (users : List Machine) (unit : ScriptUnit) (lists : List (List ℕ)) (afters : List Machine)
-    → AllByRecursion P unit → AllByRecursion Q afters → EachShare R users unit lists afters
-    → EachShare (λ (share : UnitShare) (before : Machine) (ns : List ℕ) (after : Machine). R share before ns after × (P share × Q after)) users unit lists afters
-each-with R P Q users [] [] [] ps qs each = tt
-each-with R P Q users (share ∷ shares) (ns ∷ lists) (a ∷ afters) ps qs each =
-    ((each.0.0, each.0.1, (each.0.2, (ps.0, qs.0))), each-with R P Q users shares lists afters ps.1 qs.1 each.1)
-each-with R P Q users _ _ _ ps qs each = absurd each
+pub each-with : (R : UnitShare → Machine → List ℕ → Machine → Type 0) (P : UnitShare → Type 0) (Q : Machine → Type 0) (cast : Cast) (unit : ScriptUnit) (lists : List (List ℕ)) (afters : List Machine)
+    → AllByRecursion P unit → AllByRecursion Q afters → EachShare R cast unit lists afters
+    → EachShare (λ (share : UnitShare) (before : Machine) (ns : List ℕ) (after : Machine). R share before ns after × (P share × Q after)) cast unit lists afters
+each-with R P Q cast [] [] [] ps qs each = tt
+each-with R P Q cast (share ∷ shares) (ns ∷ lists) (a ∷ afters) ps qs each =
+    ((each.0.0, each.0.1, (each.0.2, (ps.0, qs.0))), each-with R P Q cast shares lists afters ps.1 qs.1 each.1)
+each-with R P Q cast _ _ _ ps qs each = absurd each
 
-with-both : (pool : ℕ) (h : List Entry) (Q : Machine → Type 0) (users : List Machine) (unit : ScriptUnit) (lists : List (List ℕ)) (afters : List Machine)
+with-both : (pool : ℕ) (h : List Entry) (Q : Machine → Type 0) (cast : Cast) (unit : ScriptUnit) (lists : List (List ℕ)) (afters : List Machine)
     → AllByRecursion IsPairedShare unit → AllByRecursion Q afters
-    → EachShare (ReplaysShare pool h) users unit lists afters → EachShare (WithBoth pool h Q) users unit lists afters
+    → EachShare (ReplaysShare pool h) cast unit lists afters → EachShare (WithBoth pool h Q) cast unit lists afters
 with-both pool h Q = each-with (ReplaysShare pool h) IsPairedShare Q
 
 -- between units no port is shut, and no session owes anything
-abbrev pub HaveSettled : ℕ → Standing → List Machine → Type 0
-HaveSettled pool s users = (i : ℕ) (u : Machine) → slice_get users i ≡ Some u → owed_turns s u.session ≡ 0
+abbrev pub HaveSettled : ℕ → Standing → Cast → Type 0
+HaveSettled pool s cast = (i : ℕ) (u : Machine) → slice_get cast.users i ≡ Some u → owed_turns s u.session ≡ 0
 
-abbrev pub HaveSides : ℕ → Standing → List Machine → Type 0
-HaveSides pool s users = (i : ℕ) (u : Machine) → slice_get users i ≡ Some u → SideOf pool s u.session None u.own
+abbrev pub HaveSides : ℕ → Standing → Cast → Type 0
+HaveSides pool s cast = (i : ℕ) (u : Machine) → slice_get cast.users i ≡ Some u → SideOf pool s u.session None u.own
 
-pub foreign-at : (pool : ℕ) (h : List Entry) (users : List Machine) (first : ℕ) (unit : ScriptUnit) (lists : List (List ℕ)) (afters : List Machine) (last i : ℕ) (before : Machine)
-    → AreApart unit → EachShare (ReplaysShare pool h) users unit lists afters → AreSplit first last lists
-    → Cast first users → slice_get users i ≡ Some before → AreForeign h (numbers_at i unit lists) first last before.session
-foreign-at pool h users first unit lists afters last i before apart each split cast here x k e own low high none there same =
-    by_who (has-member (ReplaysShare pool h) users unit lists afters (k + 1) apart each (omega (arith, once)))
+pub foreign-at : (pool : ℕ) (h : List Entry) (cast : Cast) (first : ℕ) (unit : ScriptUnit) (lists : List (List ℕ)) (afters : List Machine) (last i : ℕ) (before : Machine)
+    → AreApart unit → EachShare (ReplaysShare pool h) cast unit lists afters → AreSplit first last lists
+    → HaveCome first cast → slice_get cast.users i ≡ Some before → AreForeign h (numbers_at i unit lists) first last before.session
+foreign-at pool h cast first unit lists afters last i before apart each split come here x k e own low high none there same =
+    by_who (has-member (ReplaysShare pool h) cast unit lists afters (k + 1) apart each (omega (arith, once)))
   where
     once : times_among (k + 1) lists ≡ 1
     once = split-has first last lists (k + 1) split (omega (arith, low)) (omega (arith, high))
 
-    by_place : (who : HasMember (ReplaysShare pool h) users unit lists (k + 1))
+    by_place : (who : HasMember (ReplaysShare pool h) cast unit lists (k + 1))
         → ((i == who.place) ≡ true) ⊎ ((i == who.place) ≡ false) → ⊥
     by_place who (inl e') =
         let is : i ≡ who.place = eqb-true i who.place e' in
@@ -186,9 +186,9 @@ foreign-at pool h users first unit lists afters last i before apart each split c
         let theirs : IsOwnSession who.before.session (numbers_at who.place unit lists) e.session =
         subst (λ (s : Option SessionId). IsOwnSession s (numbers_at who.place unit lists) e.session) (starting-same who.share who.before).session
         (own-entry pool h (k + 1) (starting who.share who.before) (numbers_at who.place unit lists) who.after e who.goes.turns who.some (ap (slice_get h) at ∙ there)) in
-        sessions-apart users first unit lists last i who.place before who.before x cast split e' here who.here own (subst (IsOwnSession who.before.session (numbers_at who.place unit lists)) mine theirs)
+        sessions-apart cast first unit lists last i who.place before who.before x come split e' here who.here own (subst (IsOwnSession who.before.session (numbers_at who.place unit lists)) mine theirs)
 
-    by_who : HasMember (ReplaysShare pool h) users unit lists (k + 1) → ⊥
+    by_who : HasMember (ReplaysShare pool h) cast unit lists (k + 1) → ⊥
     by_who who = by_place who (cases_Bool (i == who.place))
 
 pub rises-at : (pool : ℕ) (h : List Entry) (first last : ℕ) (ns : List ℕ) → Rise 0 ns (length h)
@@ -196,18 +196,18 @@ pub rises-at : (pool : ℕ) (h : List Entry) (first last : ℕ) (ns : List ℕ) 
 rises-at pool h first last ns rise up inside = from-first first ns last (narrow 0 ns (length h) last rise (omega arith) (λ b some. (inside b some).1)) up (λ b some. (inside b some).0)
 
 -- the users behind a unit
-unit-sides : (pool : ℕ) (h : List Entry) (Q : Machine → Type 0) (users : List Machine) (first : ℕ) (unit : ScriptUnit) (lists : List (List ℕ)) (afters : List Machine) (last i : ℕ) (u : Machine)
-    → AreApart unit → AllByRecursion IsPairedShare unit → AllByRecursion Q afters → EachShare (ReplaysShare pool h) users unit lists afters → AreSplit first last lists
-    → first ≤ last → last ≤ length h → ((n : ℕ) → n ≤ last → IsLegal pool (take n h)) → Cast first users → HaveSides pool (standing_of pool (take first h)) users
-    → slice_get (with_afters unit afters users) i ≡ Some u
+unit-sides : (pool : ℕ) (h : List Entry) (Q : Machine → Type 0) (cast : Cast) (first : ℕ) (unit : ScriptUnit) (lists : List (List ℕ)) (afters : List Machine) (last i : ℕ) (u : Machine)
+    → AreApart unit → AllByRecursion IsPairedShare unit → AllByRecursion Q afters → EachShare (ReplaysShare pool h) cast unit lists afters → AreSplit first last lists
+    → first ≤ last → last ≤ length h → ((n : ℕ) → n ≤ last → IsLegal pool (take n h)) → HaveCome first cast → HaveSides pool (standing_of pool (take first h)) cast
+    → slice_get (with_afters unit afters cast.users) i ≡ Some u
     → SideOf pool (standing_of pool (take last h)) u.session None u.own ⊎ (KeepsSide pool (standing_of pool (take last h)) u × Q u)
-unit-sides pool h Q users first unit lists afters last i u apart paired qs each split up within legal cast sides at = by_how m.how
+unit-sides pool h Q cast first unit lists afters last i u apart paired qs each split up within legal come sides at = by_how m.how
   where
-    m : Member (WithBoth pool h Q) users unit lists i u
-    m = member (WithBoth pool h Q) users users unit lists afters i u apart (with-both pool h Q users unit lists afters paired qs each) refl at
+    m : Member (WithBoth pool h Q) cast unit lists i u
+    m = member (WithBoth pool h Q) cast cast.users unit lists afters i u apart (with-both pool h Q cast unit lists afters paired qs each) refl at
 
     foreign : AreForeign h (numbers_at i unit lists) first last m.before.session
-    foreign = foreign-at pool h users first unit lists afters last i m.before apart each split cast m.here
+    foreign = foreign-at pool h cast first unit lists afters last i m.before apart each split come m.here
 
     inside : (b : ℕ) → 1 ≤ count_of b (numbers_at i unit lists) → (first < b) × (b ≤ last)
     inside b some = let few = few-one b i unit lists in split-in first last lists b split (omega (arith, few, some))
@@ -234,17 +234,17 @@ or-first None y e = refl
 or-first (Some a) y e = absurd cc
 
 -- the users behind a unit owe nothing
-unit-settled : (pool : ℕ) (h : List Entry) (users : List Machine) (first : ℕ) (unit : ScriptUnit) (lists : List (List ℕ)) (afters : List Machine) (last i : ℕ) (u : Machine)
-    → AreApart unit → AllByRecursion IsPairedShare unit → AllByRecursion (NeedsNoCall pool (take last h)) afters → EachShare (ReplaysShare pool h) users unit lists afters → AreSplit first last lists
-    → first ≤ last → IsLegal pool (take last h) → Cast first users → HaveSettled pool (standing_of pool (take first h)) users
-    → slice_get (with_afters unit afters users) i ≡ Some u → owed_turns (standing_of pool (take last h)) u.session ≡ 0
-unit-settled pool h users first unit lists afters last i u apart paired ended each split up legal cast settled at = by_how m.how
+unit-settled : (pool : ℕ) (h : List Entry) (cast : Cast) (first : ℕ) (unit : ScriptUnit) (lists : List (List ℕ)) (afters : List Machine) (last i : ℕ) (u : Machine)
+    → AreApart unit → AllByRecursion IsPairedShare unit → AllByRecursion (NeedsNoCall pool (take last h)) afters → EachShare (ReplaysShare pool h) cast unit lists afters → AreSplit first last lists
+    → first ≤ last → IsLegal pool (take last h) → HaveCome first cast → HaveSettled pool (standing_of pool (take first h)) cast
+    → slice_get (with_afters unit afters cast.users) i ≡ Some u → owed_turns (standing_of pool (take last h)) u.session ≡ 0
+unit-settled pool h cast first unit lists afters last i u apart paired ended each split up legal come settled at = by_how m.how
   where
-    m : Member (WithBoth pool h (NeedsNoCall pool (take last h))) users unit lists i u
-    m = member (WithBoth pool h (NeedsNoCall pool (take last h))) users users unit lists afters i u apart (with-both pool h (NeedsNoCall pool (take last h)) users unit lists afters paired ended each) refl at
+    m : Member (WithBoth pool h (NeedsNoCall pool (take last h))) cast unit lists i u
+    m = member (WithBoth pool h (NeedsNoCall pool (take last h))) cast cast.users unit lists afters i u apart (with-both pool h (NeedsNoCall pool (take last h)) cast unit lists afters paired ended each) refl at
 
     foreign : AreForeign h (numbers_at i unit lists) first last m.before.session
-    foreign = foreign-at pool h users first unit lists afters last i m.before apart each split cast m.here
+    foreign = foreign-at pool h cast first unit lists afters last i m.before apart each split come m.here
 
     by_how : ((numbers_at i unit lists ≡ []) × (u ≡ m.before)) ⊎ ((share : UnitShare) × WithBoth pool h (NeedsNoCall pool (take last h)) share m.before (numbers_at i unit lists) u)
         → owed_turns (standing_of pool (take last h)) u.session ≡ 0
@@ -276,26 +276,26 @@ keeps-ends pool h u ended keeps = by_shut keeps.shut u.tasks none keeps.side kee
 
 -- Units one after another.
 
-pub record SidesOn (pool : ℕ) (h : List Entry) (users : List Machine) (last : ℕ) : Type 0 where
-  pub sides : HaveSides pool (standing_of pool (take last h)) users
-  pub settled : HaveSettled pool (standing_of pool (take last h)) users
-  pub cast : Cast last users
+pub record SidesOn (pool : ℕ) (h : List Entry) (cast : Cast) (last : ℕ) : Type 0 where
+  pub sides : HaveSides pool (standing_of pool (take last h)) cast
+  pub settled : HaveSettled pool (standing_of pool (take last h)) cast
+  pub come : HaveCome last cast
 
-units-sides : (pool : ℕ) (h : List Entry) (users : List Machine) (first : ℕ) (units : List ScriptUnit) (next : List Machine) (last : ℕ)
+units-sides : (pool : ℕ) (h : List Entry) (cast : Cast) (first : ℕ) (units : List ScriptUnit) (next : Cast) (last : ℕ)
     → AllByRecursion AreApart units → AllByRecursion (AllByRecursion IsPairedShare) units → ((n : ℕ) → n ≤ length h → IsLegal pool (take n h)) → last ≤ length h
-    → SidesOn pool h users first → ReplaysUnits pool h users first units next last → SidesOn pool h next last
-units-sides pool h users first [] next last apart paired legal within on r = subst (SidesOn pool h next) (sym r.1) (subst (λ (us : List Machine). SidesOn pool h us first) (sym r.0) on)
-units-sides pool h users first (unit ∷ units) next last apart paired legal within on r =
-    units-sides pool h r.0 number units next last apart.1 paired.1 legal within (subst (λ (us : List Machine). SidesOn pool h us number) (sym one.others) (record {
-      sides = λ i u at. by_user i u (unit-sides pool h (NeedsNoCall pool (take number h)) users first unit one.lists one.afters number i u apart.0 paired.0 one.ended one.replays one.split one.forward one.within (λ n below. let up = one.within in legal n (omega (arith, below, up))) on.cast on.sides at);
-      settled = λ i u at. unit-settled pool h users first unit one.lists one.afters number i u apart.0 paired.0 one.ended one.replays one.split one.forward (let up = one.within in legal number up) on.cast on.settled at;
-      cast = cast-next pool h users first unit one.lists one.afters number apart.0 one.replays one.split one.forward on.cast;
+    → SidesOn pool h cast first → ReplaysUnits pool h cast first units next last → SidesOn pool h next last
+units-sides pool h cast first [] next last apart paired legal within on r = subst (SidesOn pool h next) (sym r.1) (subst (λ (c : Cast). SidesOn pool h c first) (sym r.0) on)
+units-sides pool h cast first (unit ∷ units) next last apart paired legal within on r =
+    units-sides pool h r.0 number units next last apart.1 paired.1 legal within (subst (λ (c : Cast). SidesOn pool h c number) (sym one.others) (record {
+      sides = λ i u at. by_user i u (unit-sides pool h (NeedsNoCall pool (take number h)) cast first unit one.lists one.afters number i u apart.0 paired.0 one.ended one.replays one.split one.forward one.within (λ n below. let up = one.within in legal n (omega (arith, below, up))) on.come on.sides at);
+      settled = λ i u at. unit-settled pool h cast first unit one.lists one.afters number i u apart.0 paired.0 one.ended one.replays one.split one.forward (let up = one.within in legal number up) on.come on.settled at;
+      come = come-next pool h cast first unit one.lists one.afters number apart.0 one.replays one.split one.forward on.come;
     })) r.1.1.1
   where
     number : ℕ
     number = r.1.0
 
-    one : ReplaysUnit pool h users first unit r.0 number
+    one : ReplaysUnit pool h cast first unit r.0 number
     one = r.1.1.0
 
     by_user : (i : ℕ) (u : Machine)
@@ -358,7 +358,7 @@ new-own pool low (suc count) zero u at =
     (ap (λ (m : Machine). m.session) (sym is), ap (λ (m : Machine). m.own) (sym is))
 new-own pool low (suc count) (suc i) u at = new-own pool (low + 1) count i u at
 
-first-sides : (program : Program) (h : List Entry) → SidesOn program.pool h (users_of program) 0
+first-sides : (program : Program) (h : List Entry) → SidesOn program.pool h (cast_of program) 0
 first-sides program h = record {
   sides = λ i u at.
       let new = new-own program.pool 1 (user_count program) i u at in
@@ -366,7 +366,7 @@ first-sides program h = record {
   settled = λ i u at.
       let new = new-own program.pool 1 (user_count program) i u at in
       ap (owed_turns (standing_of program.pool (take 0 h))) new.0;
-  cast = first-cast program;
+  come = first-come program;
 }
 
 -- What a user holds.
@@ -390,24 +390,24 @@ nothing-more (u ∷ users) = (tt, nothing-more users)
 
 -- what each user of a history under way has on its side, with the port of it that is shut, and that
 -- no session is that of two
-pub record StandsOnSides (pool : ℕ) (h : List Entry) (users : List Machine) : Type 0 where
-  pub sides : (i : ℕ) (u : Machine) → slice_get users i ≡ Some u
+pub record StandsOnSides (pool : ℕ) (h : List Entry) (cast : Cast) : Type 0 where
+  pub sides : (i : ℕ) (u : Machine) → slice_get cast.users i ≡ Some u
       → (shut : Option ℕ) × SideOf pool (standing_of pool h) u.session shut u.own
-  pub cast : Cast (length h) users
+  pub come : HaveCome (length h) cast
 
-pub legal-at : (program : Program) (captures : Captures) (h : List Entry) (nows : List Machine)
+pub legal-at : (program : Program) (captures : Captures) (h : List Entry) (nows : Cast)
     → IsUnderWay program captures h nows → (n : ℕ) → n ≤ length h → IsLegal program.pool (take n h)
 legal-at program captures h nows way n within =
     (legal-split program.pool (take n h) (drop n h) (subst (IsLegal program.pool) (sym (take-append-drop n h)) (played-legal program captures h nows way))).0
 
 -- the users where the unit under way begins
-pub reached-sides : (program : Program) (captures : Captures) (h : List Entry) (nows : List Machine)
-    → (r : Reaches program captures h nows) → SidesOn program.pool h r.users r.first
+pub reached-sides : (program : Program) (captures : Captures) (h : List Entry) (nows : Cast)
+    → (r : Reaches program captures h nows) → SidesOn program.pool h r.cast r.first
 reached-sides program captures h nows r =
-    units-sides program.pool h (users_of program) 0 (take r.count (units_of program captures)) r.users r.first (take-apart r.count (units_of program captures) (units-apart program captures))
+    units-sides program.pool h (cast_of program) 0 (take r.count (units_of program captures)) r.cast r.first (take-apart r.count (units_of program captures) (units-apart program captures))
     (take-all (AllByRecursion IsPairedShare) r.count (units_of program captures) (units-paired program captures)) (legal-at program captures h nows (inr r)) r.forward (first-sides program h) r.units
 
-pub users-sides : (program : Program) (captures : Captures) (h : List Entry) (nows : List Machine)
+pub users-sides : (program : Program) (captures : Captures) (h : List Entry) (nows : Cast)
     → IsUnderWay program captures h nows → StandsOnSides program.pool h nows
 users-sides program captures h nows way = by_way way
   where
@@ -419,8 +419,8 @@ users-sides program captures h nows way = by_way way
 
     played : HasPlayed program captures h nows → StandsOnSides program.pool h nows
     played p =
-        let on = units-sides program.pool h (users_of program) 0 (units_of program captures) nows (length h) (units-apart program captures) (units-paired program captures) legal (omega arith) (first-sides program h) p.units in
-        record { sides = λ i u at. (None, subst (λ (es : List Entry). SideOf program.pool (standing_of program.pool es) u.session None u.own) whole (on.sides i u at)); cast = on.cast }
+        let on = units-sides program.pool h (cast_of program) 0 (units_of program captures) nows (length h) (units-apart program captures) (units-paired program captures) legal (omega arith) (first-sides program h) p.units in
+        record { sides = λ i u at. (None, subst (λ (es : List Entry). SideOf program.pool (standing_of program.pool es) u.session None u.own) whole (on.sides i u at)); come = on.come }
 
     by_side : (u : Machine)
         → SideOf program.pool (standing_of program.pool (take (length h) h)) u.session None u.own ⊎ (KeepsSide program.pool (standing_of program.pool (take (length h) h)) u × Unit {0})
@@ -435,10 +435,10 @@ users-sides program captures h nows way = by_way way
         let apart = apart-at r.count (units_of program captures) r.unit (units-apart program captures) r.there in
         let on = reached-sides program captures h nows r in
         record {
-          sides = λ i u at. by_side u (unit-sides program.pool h (λ (m : Machine). Unit {0}) r.users r.first r.unit r.lists r.afters (length h) i u apart
-              (all-at (AllByRecursion IsPairedShare) r.count (units_of program captures) r.unit (units-paired program captures) r.there) (nothing-more r.afters) r.replays r.split r.forward (omega arith) legal on.cast on.sides
-              (ap (λ (us : List Machine). slice_get us i) (sym r.nows_are) ∙ at));
-          cast = subst (Cast (length h)) (sym r.nows_are) (cast-next program.pool h r.users r.first r.unit r.lists r.afters (length h) apart r.replays r.split r.forward on.cast);
+          sides = λ i u at. by_side u (unit-sides program.pool h (λ (m : Machine). Unit {0}) r.cast r.first r.unit r.lists r.afters (length h) i u apart
+              (all-at (AllByRecursion IsPairedShare) r.count (units_of program captures) r.unit (units-paired program captures) r.there) (nothing-more r.afters) r.replays r.split r.forward (omega arith) legal on.come on.sides
+              (ap (λ (c : Cast). slice_get c.users i) (sym r.nows_are) ∙ at));
+          come = subst (HaveCome (length h)) (sym r.nows_are) (come-next program.pool h r.cast r.first r.unit r.lists r.afters (length h) apart r.replays r.split r.forward on.come);
         }
 
     by_way : HasPlayed program captures h nows ⊎ Reaches program captures h nows
@@ -449,5 +449,5 @@ users-sides program captures h nows way = by_way way
 pub users-hold : UsersHoldTheirOwn
 users-hold program captures h nows way =
     let stands = users-sides program captures h nows way in
-    each-from (HoldsItsOwn (standing_of program.pool h)) nows
+    each-from (HoldsItsOwn (standing_of program.pool h)) nows.users
     (λ i u at. let side = stands.sides i u at in holds-by program.pool (standing_of program.pool h) u u.session side.0 refl side.1)

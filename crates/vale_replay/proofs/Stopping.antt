@@ -6,13 +6,13 @@ use Rattle.vale_entry.specs.declared.entry.Ask.{Ask}
 use Rattle.vale_entry.specs.declared.entry.Entry.{Entry}
 use Rattle.vale_entry.specs.Legal.{world_of, IsLegal}
 use Rattle.vale_replay.specs.Machine.{Machine, next_call}
-use Rattle.vale_replay.specs.Replay.{UnitShare, ScriptUnit, EachShare, ReplaysUser, ReplaysShare, AreSplit, starting, times_among, units_of, users_of, with_afters}
+use Rattle.vale_replay.specs.Replay.{UnitShare, ScriptUnit, EachShare, ReplaysUser, ReplaysShare, AreSplit, cast_after, cast_of, starting, times_among, units_of, with_afters}
 use Rattle.vale_replay.specs.Joined.{lists_in}
 use Rattle.vale_replay.specs.Stops.{PlaysIfSmaller, PlaysOrStops, UsersStop}
 use Rattle.vale_replay.proofs.Turns.{states-one, reads-to-last}
 use Rattle.vale_replay.proofs.Legal.{FollowsAt, shares-follow, legal-to}
 use Rattle.vale_replay.proofs.Members.{HasShare, has-share, have-same, each-weaker}
-use Rattle.vale_replay.proofs.Joins.{Joined, split-has, split-from, outside-lists, outside-units, among-append, joined-units, units-turns-follow, units-apart, take-apart, apart-at, first-cast, first-owes}
+use Rattle.vale_replay.proofs.Joins.{Joined, split-has, split-from, outside-lists, outside-units, among-append, joined-units, units-turns-follow, units-apart, take-apart, apart-at, first-come, first-owes}
 use Rattle.vale_replay.proofs.Cuts.{CutUser, CutShares, up_to, up_to-whole, user-cut, shares-cut, split-cut, units-cut}
 
 -- a user of a cut unit, and the one that stops comes to its call there
@@ -53,21 +53,21 @@ cut-replays pool h user call share before ns now cut = cut.0
 pub users-stop : UsersStop
 users-stop program captures h count user call stopped = record {
   comes = record {
-    nows = with_afters stopped.unit cut.nows stopped.users;
+    nows = cast_after stopped.unit cut.nows stopped.cast;
     reached = record {
       files = stopped.files;
       count = stopped.done;
       unit = stopped.unit;
       forward = subst (λ (n : ℕ). stopped.first ≤ n) (sym total) stopped.forward;
       there = stopped.there;
-      users = stopped.users;
+      cast = stopped.cast;
       first = stopped.first;
-      units = units-cut program.pool h (users_of program) 0 (take stopped.done (units_of program captures)) stopped.users stopped.first count stopped.forward joined.replays;
+      units = units-cut program.pool h (cast_of program) 0 (take stopped.done (units_of program captures)) stopped.cast stopped.first count stopped.forward joined.replays;
       lists = map (up_to count) stopped.unit_lists;
       afters = cut.nows;
       split = subst (λ (n : ℕ). AreSplit stopped.first n (map (up_to count) stopped.unit_lists)) (sym total)
-          (split-cut program.pool h stopped.users stopped.unit count stopped.unit_lists stopped.afters stopped.first stopped.last each stopped.forward stopped.seen split);
-      replays = each-weaker (CutShare program.pool (take count h) user call) (ReplaysShare program.pool (take count h)) stopped.users stopped.unit (map (up_to count) stopped.unit_lists) cut.nows
+          (split-cut program.pool h stopped.cast stopped.unit count stopped.unit_lists stopped.afters stopped.first stopped.last each stopped.forward stopped.seen split);
+      replays = each-weaker (CutShare program.pool (take count h) user call) (ReplaysShare program.pool (take count h)) stopped.cast stopped.unit (map (up_to count) stopped.unit_lists) cut.nows
           (cut-replays program.pool (take count h) user call) cut.each;
       nows_are = refl;
     };
@@ -78,7 +78,7 @@ users-stop program captures h count user call stopped = record {
   };
   lists = stopped.unit_lists;
   afters = stopped.afters;
-  smaller = each-weaker (PlaysOrStops program.pool h count user call) (PlaysIfSmaller program.pool h user) stopped.users stopped.unit stopped.unit_lists stopped.afters (smaller-of program.pool h count user call) stopped.works;
+  smaller = each-weaker (PlaysOrStops program.pool h count user call) (PlaysIfSmaller program.pool h user) stopped.cast stopped.unit stopped.unit_lists stopped.afters (smaller-of program.pool h count user call) stopped.works;
 }
   where
     units : List ScriptUnit
@@ -87,8 +87,8 @@ users-stop program captures h count user call stopped = record {
     total : length (take count h) ≡ count
     total = let seen = stopped.seen in let within = stopped.within in length-take-le count h (omega (arith, seen, within))
 
-    each : EachShare (ReplaysShare program.pool h) stopped.users stopped.unit stopped.unit_lists stopped.afters
-    each = each-weaker (PlaysOrStops program.pool h count user call) (ReplaysShare program.pool h) stopped.users stopped.unit stopped.unit_lists stopped.afters (replays-of program.pool h count user call) stopped.works
+    each : EachShare (ReplaysShare program.pool h) stopped.cast stopped.unit stopped.unit_lists stopped.afters
+    each = each-weaker (PlaysOrStops program.pool h count user call) (ReplaysShare program.pool h) stopped.cast stopped.unit stopped.unit_lists stopped.afters (replays-of program.pool h count user call) stopped.works
 
     all : (b : ℕ) → times_among b (lists_in stopped.lists ++ stopped.unit_lists) ≡ times_among b (lists_in stopped.lists) + times_among b stopped.unit_lists
     all b = among-append b (lists_in stopped.lists) stopped.unit_lists
@@ -106,7 +106,7 @@ users-stop program captures h count user call stopped = record {
     here : (b : ℕ) → stopped.first < b → b ≤ stopped.last → times_among b stopped.unit_lists ≡ 1
     here b up down =
         let one = split-has 0 stopped.last (lists_in stopped.lists ++ stopped.unit_lists) b stopped.split (omega (arith, up)) down in
-        let none = outside-units program.pool h (users_of program) 0 units stopped.lists stopped.users stopped.first b stopped.turns (inr up) in
+        let none = outside-units program.pool h (cast_of program) 0 units stopped.lists stopped.cast stopped.first b stopped.turns (inr up) in
         let both = all b in
         omega (arith, one, none, both)
 
@@ -120,24 +120,24 @@ users-stop program captures h count user call stopped = record {
         by_unit : (stopped.first < b) ⊎ (b ≤ stopped.first) → FollowsAt program.pool h b
         by_unit (inl later) =
             let one = here b later down in
-            shares-follow program.pool h b stopped.users stopped.unit stopped.unit_lists stopped.afters each (omega (arith, one))
+            shares-follow program.pool h b stopped.cast stopped.unit stopped.unit_lists stopped.afters each (omega (arith, one))
         by_unit (inr early) =
             let one = once b up early in
-            units-turns-follow program.pool h (users_of program) 0 units stopped.lists stopped.users stopped.first b stopped.turns (omega (arith, one))
+            units-turns-follow program.pool h (cast_of program) 0 units stopped.lists stopped.cast stopped.first b stopped.turns (omega (arith, one))
 
     legal : (n : ℕ) → n ≤ stopped.first → IsLegal program.pool (take n h)
     legal n below = legal-to program.pool h stopped.last follows n (omega (arith, below, ordered))
 
-    joined : Joined program.pool h (users_of program) 0 units stopped.users stopped.first
+    joined : Joined program.pool h (cast_of program) 0 units stopped.cast stopped.first
     joined =
         let within = stopped.within in
-        joined-units program.pool h (users_of program) 0 units stopped.lists stopped.users stopped.first (take-apart stopped.done (units_of program captures) (units-apart program captures)) legal
-        (omega (arith, ordered, within)) once (first-cast program) (first-owes program (take 0 h)) stopped.turns
+        joined-units program.pool h (cast_of program) 0 units stopped.lists stopped.cast stopped.first (take-apart stopped.done (units_of program captures) (units-apart program captures)) legal
+        (omega (arith, ordered, within)) once (first-come program) (first-owes program (take 0 h)) stopped.turns
 
-    cut : CutShares (CutShare program.pool (take count h) user call) stopped.users stopped.unit count stopped.unit_lists
-    cut = shares-cut (PlaysOrStops program.pool h count user call) (CutShare program.pool (take count h) user call) stopped.users stopped.unit count stopped.unit_lists stopped.afters
+    cut : CutShares (CutShare program.pool (take count h) user call) stopped.cast stopped.unit count stopped.unit_lists
+    cut = shares-cut (PlaysOrStops program.pool h count user call) (CutShare program.pool (take count h) user call) stopped.cast stopped.unit count stopped.unit_lists stopped.afters
         (share-cut program.pool h count user call) stopped.works
 
-    found : HasShare (CutShare program.pool (take count h) user call) cut.nows (with_afters stopped.unit cut.nows stopped.users) user
-    found = has-share (CutShare program.pool (take count h) user call) stopped.users stopped.users stopped.unit (map (up_to count) stopped.unit_lists) cut.nows user
-        (apart-at stopped.done (units_of program captures) stopped.unit (units-apart program captures) stopped.there) cut.each (have-same stopped.users stopped.unit) stopped.of_unit
+    found : HasShare (CutShare program.pool (take count h) user call) cut.nows (with_afters stopped.unit cut.nows stopped.cast.users) user
+    found = has-share (CutShare program.pool (take count h) user call) stopped.cast stopped.cast.users stopped.unit (map (up_to count) stopped.unit_lists) cut.nows user
+        (apart-at stopped.done (units_of program captures) stopped.unit (units-apart program captures) stopped.there) cut.each (have-same stopped.cast.users stopped.unit) stopped.of_unit

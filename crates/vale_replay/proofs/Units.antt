@@ -7,7 +7,7 @@ use Rattle.vale_script.specs.declared.script.Unit.TheVariants as parts
 use Rattle.vale_script.specs.Script.{Program}
 use Rattle.vale_replay.specs.Machine.{Machine, closing_tasks}
 use Rattle.vale_replay.specs.Tasks.{Captures, records_of}
-use Rattle.vale_replay.specs.Replay.{UnitShare, ScriptUnit, TakesTurns, ReplaysShare, ReplaysUnit, ReplaysUnits, EachShare, AreSplit, NeedsNoCall, with_afters, share_of, shares_of, closing_unit, starting, units_of, user_count}
+use Rattle.vale_replay.specs.Replay.{Cast, UnitShare, ScriptUnit, TakesTurns, ReplaysShare, ReplaysUnit, ReplaysUnits, EachShare, AreSplit, NeedsNoCall, cast_after, closing_unit, share_of, shares_of, starting, units_of, user_count, with_user}
 use Rattle.vale_replay.specs.Laws.{IsLine, HasNoBlock}
 use Rattle.vale_replay.proofs.Numbers.{split-one}
 
@@ -16,54 +16,54 @@ abbrev pub numbers_between : ℕ → ℕ → List ℕ
 numbers_between first last = range_with_len (first + 1) (last - first)
 
 -- a unit of one user
-pub record Alone (pool : ℕ) (h : List Entry) (users : List Machine) (first : ℕ) (share : UnitShare) (next : List Machine) (last : ℕ) : Type 0 where
+pub record Alone (pool : ℕ) (h : List Entry) (cast : Cast) (first : ℕ) (share : UnitShare) (next : Cast) (last : ℕ) : Type 0 where
   pub before : Machine
   pub after : Machine
-  pub here : slice_get users (share.user - 1) ≡ Some before
+  pub here : slice_get cast.users (share.user - 1) ≡ Some before
   pub forward : first ≤ last
   pub turns : TakesTurns pool h (starting share before) (numbers_between first last) after
   pub ended : NeedsNoCall pool (take last h) after
-  pub others : next ≡ slice_set users (share.user - 1) after
+  pub others : next ≡ with_user cast share.user after
 
 abbrev pub alone_share : UnitShare → ScriptUnit
 alone_share share = share ∷ []
 
 -- the user of a unit of one user, and where it has come with the entries of the unit up to some
 -- number
-pub record AloneSoFar (pool : ℕ) (h : List Entry) (users : List Machine) (first : ℕ) (share : UnitShare) (afters : List Machine) (last : ℕ) : Type 0 where
+pub record AloneSoFar (pool : ℕ) (h : List Entry) (cast : Cast) (first : ℕ) (share : UnitShare) (afters : List Machine) (last : ℕ) : Type 0 where
   pub before : Machine
   pub after : Machine
-  pub here : slice_get users (share.user - 1) ≡ Some before
+  pub here : slice_get cast.users (share.user - 1) ≡ Some before
   pub turns : TakesTurns pool h (starting share before) (numbers_between first last) after
   pub afters_are : afters ≡ after ∷ []
 
-pub alone-so_far : (pool : ℕ) (h : List Entry) (users : List Machine) (first last : ℕ) (share : UnitShare) (lists : List (List ℕ)) (afters : List Machine)
-    → first ≤ length h → AreSplit first last lists → EachShare (ReplaysShare pool h) users (share ∷ []) lists afters → AloneSoFar pool h users first share afters last
-alone-so_far pool h users first last share (ns ∷ []) (after ∷ []) within split each = record {
+pub alone-so_far : (pool : ℕ) (h : List Entry) (cast : Cast) (first last : ℕ) (share : UnitShare) (lists : List (List ℕ)) (afters : List Machine)
+    → first ≤ length h → AreSplit first last lists → EachShare (ReplaysShare pool h) cast (share ∷ []) lists afters → AloneSoFar pool h cast first share afters last
+alone-so_far pool h cast first last share (ns ∷ []) (after ∷ []) within split each = record {
   before = each.0.0;
   after = after;
   here = each.0.1;
   turns = subst (λ (ms : List ℕ). TakesTurns pool h (starting share each.0.0) ms after) (split-one first last ns (length h) within each.0.2.rise split) each.0.2.turns;
   afters_are = refl;
 }
-alone-so_far pool h users first last share [] [] within split each = absurd each
-alone-so_far pool h users first last share [] (after ∷ afters) within split each = absurd each
-alone-so_far pool h users first last share (ns ∷ lists) [] within split each = absurd each
-alone-so_far pool h users first last share (ns ∷ m ∷ lists) (after ∷ []) within split each = absurd each.1
-alone-so_far pool h users first last share (ns ∷ []) (after ∷ b ∷ afters) within split each = absurd each.1
-alone-so_far pool h users first last share (ns ∷ m ∷ lists) (after ∷ b ∷ afters) within split each = absurd each.1
+alone-so_far pool h cast first last share [] [] within split each = absurd each
+alone-so_far pool h cast first last share [] (after ∷ afters) within split each = absurd each
+alone-so_far pool h cast first last share (ns ∷ lists) [] within split each = absurd each
+alone-so_far pool h cast first last share (ns ∷ m ∷ lists) (after ∷ []) within split each = absurd each.1
+alone-so_far pool h cast first last share (ns ∷ []) (after ∷ b ∷ afters) within split each = absurd each.1
+alone-so_far pool h cast first last share (ns ∷ m ∷ lists) (after ∷ b ∷ afters) within split each = absurd each.1
 
-pub alone : (pool : ℕ) (h : List Entry) (users : List Machine) (first : ℕ) (share : UnitShare) (next : List Machine) (last : ℕ)
-    → ReplaysUnit pool h users first (share ∷ []) next last → Alone pool h users first share next last
-alone pool h users first share next last r =
+pub alone : (pool : ℕ) (h : List Entry) (cast : Cast) (first : ℕ) (share : UnitShare) (next : Cast) (last : ℕ)
+    → ReplaysUnit pool h cast first (share ∷ []) next last → Alone pool h cast first share next last
+alone pool h cast first share next last r =
     let up = r.forward in
     let within = r.within in
-    let a = alone-so_far pool h users first last share r.lists r.afters (omega (arith, up, within)) r.split r.replays in
+    let a = alone-so_far pool h cast first last share r.lists r.afters (omega (arith, up, within)) r.split r.replays in
     let ended : AllByRecursion (NeedsNoCall pool (take last h)) (a.after ∷ []) = subst (AllByRecursion (NeedsNoCall pool (take last h))) a.afters_are r.ended in
     record {
       before = a.before;
       after = a.after;
-      others = r.others ∙ ap (λ (ms : List Machine). with_afters (share ∷ []) ms users) a.afters_are;
+      others = r.others ∙ ap (λ (ms : List Machine). cast_after (share ∷ []) ms cast) a.afters_are;
       here = a.here;
       forward = r.forward;
       turns = a.turns;
@@ -71,16 +71,16 @@ alone pool h users first share next last r =
     }
 
 -- units of one user each, one after another
-abbrev pub AloneUnits : ℕ → List Entry → List Machine → ℕ → ScriptUnit → List Machine → ℕ → Type 0
-AloneUnits pool h users first [] next last = (next ≡ users) × (last ≡ first)
-AloneUnits pool h users first (share ∷ shares) next last =
-    (between : List Machine) × ((number : ℕ) × (Alone pool h users first share between number × AloneUnits pool h between number shares next last))
+abbrev pub AloneUnits : ℕ → List Entry → Cast → ℕ → ScriptUnit → Cast → ℕ → Type 0
+AloneUnits pool h cast first [] next last = (next ≡ cast) × (last ≡ first)
+AloneUnits pool h cast first (share ∷ shares) next last =
+    (between : Cast) × ((number : ℕ) × (Alone pool h cast first share between number × AloneUnits pool h between number shares next last))
 
-pub alone-units : (pool : ℕ) (h : List Entry) (users : List Machine) (first : ℕ) (shares : ScriptUnit) (next : List Machine) (last : ℕ)
-    → ReplaysUnits pool h users first (map alone_share shares) next last → AloneUnits pool h users first shares next last
-alone-units pool h users first [] next last all = all
-alone-units pool h users first (share ∷ shares) next last all =
-    (all.0, (all.1.0, (alone pool h users first share all.0 all.1.0 all.1.1.0, alone-units pool h all.0 all.1.0 shares next last all.1.1.1)))
+pub alone-units : (pool : ℕ) (h : List Entry) (cast : Cast) (first : ℕ) (shares : ScriptUnit) (next : Cast) (last : ℕ)
+    → ReplaysUnits pool h cast first (map alone_share shares) next last → AloneUnits pool h cast first shares next last
+alone-units pool h cast first [] next last all = all
+alone-units pool h cast first (share ∷ shares) next last all =
+    (all.0, (all.1.0, (alone pool h cast first share all.0 all.1.0 all.1.1.0, alone-units pool h all.0 all.1.0 shares next last all.1.1.1)))
 
 -- the shares of a script without blocks
 abbrev share_of_part : (List ℕ → List (List ℕ)) → ReadUnit → ScriptUnit

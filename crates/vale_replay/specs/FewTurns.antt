@@ -7,7 +7,7 @@ use Rattle.vale_entry.specs.declared.entry.Reply.{Reply}
 use Rattle.vale_entry.specs.declared.entry.Reply.TheVariants.{Offered, Gave, Took}
 use Rattle.vale_script.specs.Script.{Program}
 use Rattle.vale_replay.specs.Machine.{Machine}
-use Rattle.vale_replay.specs.Replay.{UnitShare, EachShare, Reaches}
+use Rattle.vale_replay.specs.Replay.{Cast, UnitShare, EachShare, Reaches}
 use Rattle.vale_replay.specs.Tasks.{Captures}
 
 -- the offers that an entry made, one for each port that its reply names
@@ -34,6 +34,6 @@ HasFewTurns history share before numbers after =
 -- So it is in the unit under way, with blocks too: no user goes on for ever.
 abbrev pub TurnsAreFew : Type 0
 TurnsAreFew =
-    (program : Program) (captures : Captures) (history : List Entry) (nows : List Machine)
+    (program : Program) (captures : Captures) (history : List Entry) (nows : Cast)
     → (reached : Reaches program captures history nows)
-    → EachShare (HasFewTurns history) reached.users reached.unit reached.lists reached.afters
+    → EachShare (HasFewTurns history) reached.cast reached.unit reached.lists reached.afters

@@ -5,7 +5,7 @@ use Rattle.std.specs.List.{AllByRecursion}
 use Rattle.vale_entry.specs.declared.entry.Entry.{Entry}
 use Rattle.vale_script.specs.Script.{Program}
 use Rattle.vale_replay.specs.Machine.{Machine}
-use Rattle.vale_replay.specs.Replay.{UnitShare, ScriptUnit, EachShare, PlaysUser, AreSplit, HasCaptures, HasPlayed, starting, units_of, users_of, with_afters}
+use Rattle.vale_replay.specs.Replay.{Cast, UnitShare, ScriptUnit, EachShare, PlaysUser, AreSplit, HasCaptures, HasPlayed, cast_after, cast_of, starting, units_of}
 use Rattle.vale_replay.specs.Tasks.{Captures}
 
 -- a share's user plays its lines by its entries
@@ -18,22 +18,22 @@ abbrev pub IsWithin : ℕ → ℕ → ℕ → Type 0
 IsWithin first last number = (first < number) × (number ≤ last)
 
 -- the users of a unit play it, each by entries of the unit's range
-pub record TurnsOfUnit (pool : ℕ) (history : List Entry) (users : List Machine) (first : ℕ) (unit : ScriptUnit) (lists : List (List ℕ)) (next : List Machine) (last : ℕ) : Type 0 where
+pub record TurnsOfUnit (pool : ℕ) (history : List Entry) (cast : Cast) (first : ℕ) (unit : ScriptUnit) (lists : List (List ℕ)) (next : Cast) (last : ℕ) : Type 0 where
   pub afters : List Machine
   pub forward : first ≤ last
-  pub plays : EachShare (PlaysShare pool history) users unit lists afters
+  pub plays : EachShare (PlaysShare pool history) cast unit lists afters
   pub inside : AllByRecursion (AllByRecursion (IsWithin first last)) lists
-  pub others : next ≡ with_afters unit afters users
+  pub others : next ≡ cast_after unit afters cast
 
 -- units one after another, with the lists of each
-abbrev pub TurnsOfUnits : ℕ → List Entry → List Machine → ℕ → List ScriptUnit
-    → List (List (List ℕ)) → List Machine → ℕ → Type 0
-TurnsOfUnits pool history users first [] [] next last = (next ≡ users) × (last ≡ first)
-TurnsOfUnits pool history users first (unit ∷ units) (lists ∷ more) next last =
-    (between : List Machine) × ((number : ℕ)
-    × (TurnsOfUnit pool history users first unit lists between number
+abbrev pub TurnsOfUnits : ℕ → List Entry → Cast → ℕ → List ScriptUnit → List (List (List ℕ)) → Cast → ℕ
+    → Type 0
+TurnsOfUnits pool history cast first [] [] next last = (next ≡ cast) × (last ≡ first)
+TurnsOfUnits pool history cast first (unit ∷ units) (lists ∷ more) next last =
+    (between : Cast) × ((number : ℕ)
+    × (TurnsOfUnit pool history cast first unit lists between number
     × TurnsOfUnits pool history between number units more next last))
-TurnsOfUnits pool history users first _ _ next last = ⊥
+TurnsOfUnits pool history cast first _ _ next last = ⊥
 
 abbrev pub lists_in : List (List (List ℕ)) → List (List ℕ)
 lists_in units = flat_map (λ (lists : List (List ℕ)). lists) units
@@ -41,35 +41,35 @@ lists_in units = flat_map (λ (lists : List (List ℕ)). lists) units
 -- what users promise is read in the history up to the last of their entries
 abbrev pub TurnsReadToTheirLast : Type 0
 TurnsReadToTheirLast =
-    (pool : ℕ) (history : List Entry) (count : ℕ) (users : List Machine) (first : ℕ) (units : List ScriptUnit) (lists : List (List (List ℕ))) (next : List Machine) (last : ℕ)
+    (pool : ℕ) (history : List Entry) (count : ℕ) (cast : Cast) (first : ℕ) (units : List ScriptUnit) (lists : List (List (List ℕ))) (next : Cast) (last : ℕ)
     → last ≤ count
-    → TurnsOfUnits pool history users first units lists next last
-    ↔ TurnsOfUnits pool (take count history) users first units lists next last
+    → TurnsOfUnits pool history cast first units lists next last
+    ↔ TurnsOfUnits pool (take count history) cast first units lists next last
 
 -- a unit behind other units
 abbrev pub TurnsGoOn : Type 0
 TurnsGoOn =
-    (pool : ℕ) (history : List Entry) (users : List Machine) (first : ℕ) (units : List ScriptUnit) (lists : List (List (List ℕ))) (between : List Machine) (number : ℕ) (unit : ScriptUnit) (unit_lists : List (List ℕ)) (next : List Machine) (last : ℕ)
-    → TurnsOfUnits pool history users first units lists between number
+    (pool : ℕ) (history : List Entry) (cast : Cast) (first : ℕ) (units : List ScriptUnit) (lists : List (List (List ℕ))) (between : Cast) (number : ℕ) (unit : ScriptUnit) (unit_lists : List (List ℕ)) (next : Cast) (last : ℕ)
+    → TurnsOfUnits pool history cast first units lists between number
     → TurnsOfUnit pool history between number unit unit_lists next last
-    → TurnsOfUnits pool history users first (units ++ unit ∷ []) (lists ++ unit_lists ∷ []) next last
+    → TurnsOfUnits pool history cast first (units ++ unit ∷ []) (lists ++ unit_lists ∷ []) next last
 
 -- the users of a script play each of its units, up to the history's last entry
-pub record HasTurns (program : Program) (captures : Captures) (history : List Entry) (lists : List (List (List ℕ))) (users : List Machine) : Type 0 where
+pub record HasTurns (program : Program) (captures : Captures) (history : List Entry) (lists : List (List (List ℕ))) (cast : Cast) : Type 0 where
   pub files : HasCaptures program captures
-  pub turns : TurnsOfUnits program.pool history (users_of program) 0 (units_of program captures) lists users (length history)
+  pub turns : TurnsOfUnits program.pool history (cast_of program) 0 (units_of program captures) lists cast (length history)
 
 -- where their numbers are all numbers of the history, each once, it plays the script
 abbrev pub JoinsUsers : Type 0
 JoinsUsers =
-    (program : Program) (captures : Captures) (history : List Entry) (lists : List (List (List ℕ))) (users : List Machine)
-    → HasTurns program captures history lists users
-    → AreSplit 0 (length history) (lists_in lists) → HasPlayed program captures history users
+    (program : Program) (captures : Captures) (history : List Entry) (lists : List (List (List ℕ))) (cast : Cast)
+    → HasTurns program captures history lists cast
+    → AreSplit 0 (length history) (lists_in lists) → HasPlayed program captures history cast
 
 -- and a history that plays the script is put together of such turns
 abbrev pub PlayedIsOfTurns : Type 0
 PlayedIsOfTurns =
-    (program : Program) (captures : Captures) (history : List Entry) (users : List Machine)
-    → HasPlayed program captures history users
+    (program : Program) (captures : Captures) (history : List Entry) (cast : Cast)
+    → HasPlayed program captures history cast
     → (lists : List (List (List ℕ)))
-    × (HasTurns program captures history lists users × AreSplit 0 (length history) (lists_in lists))
+    × (HasTurns program captures history lists cast × AreSplit 0 (length history) (lists_in lists))

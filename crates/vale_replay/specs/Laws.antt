@@ -11,7 +11,7 @@ use Rattle.vale_script.specs.Script.{Program}
 use Rattle.nm_types.specs.declared.id.SessionId.{SessionId}
 use Rattle.vale_own.specs.Laws.{IsOfOther}
 use Rattle.vale_replay.specs.Machine.{Machine, pending_call}
-use Rattle.vale_replay.specs.Replay.{Replays, HasPlayed, Reaches, ReplaysUser, IsUnderWay, ComesTo, entry_made, last_of}
+use Rattle.vale_replay.specs.Replay.{Cast, Replays, HasPlayed, Reaches, ReplaysUser, IsUnderWay, ComesTo, entry_made, last_of}
 use Rattle.vale_replay.specs.Tasks.{Captures}
 
 -- a script without blocks
@@ -57,15 +57,15 @@ UnderWayIsOne =
 -- each entry of a history that plays a script, or is under way, is the one that its ask makes
 abbrev pub PlayedIsLegal : Type 0
 PlayedIsLegal =
-    (program : Program) (captures : Captures) (history : List Entry) (nows : List Machine)
+    (program : Program) (captures : Captures) (history : List Entry) (nows : Cast)
     → IsUnderWay program captures history nows → IsLegal program.pool history
 
 -- what a history under way began with, up to any of its entries, was under way
 abbrev pub PrefixIsUnderWay : Type 0
 PrefixIsUnderWay =
-    (program : Program) (captures : Captures) (history : List Entry) (nows : List Machine) (count : ℕ)
+    (program : Program) (captures : Captures) (history : List Entry) (nows : Cast) (count : ℕ)
     → IsUnderWay program captures history nows
-    → (befores : List Machine) × IsUnderWay program captures (take count history) befores
+    → (befores : Cast) × IsUnderWay program captures (take count history) befores
 
 -- a user's entries in two pieces, one after the other
 pub record GoBetween (pool : ℕ) (history : List Entry) (before : Machine) (numbers others : List ℕ) (after : Machine) : Type 0 where
@@ -106,16 +106,16 @@ OthersChangeNoCall =
 -- those to which a history that plays the script brings them are one
 abbrev pub PlayedStatesAreOne : Type 0
 PlayedStatesAreOne =
-    (program : Program) (captures : Captures) (history : List Entry) (users others : List Machine)
-    → HasPlayed program captures history users → HasPlayed program captures history others
-    → users ≡ others
+    (program : Program) (captures : Captures) (history : List Entry) (cast other : Cast)
+    → HasPlayed program captures history cast → HasPlayed program captures history other
+    → cast ≡ other
 
 -- Those to which a history under way has brought them are one within each unit. What they do
 -- without a call may stand on either side of an entry, as a history that ends a unit is at the
 -- beginning of the next one too.
 abbrev pub ReachedStatesAreOne : Type 0
 ReachedStatesAreOne =
-    (program : Program) (captures : Captures) (history : List Entry) (nows others : List Machine)
+    (program : Program) (captures : Captures) (history : List Entry) (nows others : Cast)
     → (one : Reaches program captures history nows) (other : Reaches program captures history others)
     → one.count ≡ other.count → nows ≡ others
 
@@ -133,8 +133,8 @@ CallsAreAtOnce =
 -- and a history that plays the script comes to none
 abbrev pub PlayedComesToNone : Type 0
 PlayedComesToNone =
-    (program : Program) (captures : Captures) (history : List Entry) (users : List Machine) (user : ℕ) (call : Ask)
-    → HasPlayed program captures history users → ¬ ComesTo program captures history user call
+    (program : Program) (captures : Captures) (history : List Entry) (cast : Cast) (user : ℕ) (call : Ask)
+    → HasPlayed program captures history cast → ¬ ComesTo program captures history user call
 
 -- Behind the closing of each user none has a session, so no session is there, and no port.
 
@@ -148,5 +148,5 @@ pub record HaveLeft (pool : ℕ) (history : List Entry) (users : List Machine) :
 
 abbrev pub UsersLeave : Type 0
 UsersLeave =
-    (program : Program) (captures : Captures) (history : List Entry) (users : List Machine)
-    → HasPlayed program captures history users → HaveLeft program.pool history users
+    (program : Program) (captures : Captures) (history : List Entry) (cast : Cast)
+    → HasPlayed program captures history cast → HaveLeft program.pool history cast.users

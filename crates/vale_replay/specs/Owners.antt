@@ -14,7 +14,7 @@ use Rattle.vale_entry.specs.Legal.{Standing, standing_of}
 use Rattle.vale_own.specs.Side.{buffers_on}
 use Rattle.vale_script.specs.Script.{Program}
 use Rattle.vale_replay.specs.Machine.{Machine}
-use Rattle.vale_replay.specs.Replay.{HasPlayed, IsUnderWay}
+use Rattle.vale_replay.specs.Replay.{Cast, HasPlayed, IsUnderWay}
 use Rattle.vale_replay.specs.Tasks.{Captures}
 
 pub data Owner : Type 0 where
@@ -83,9 +83,9 @@ HoldsItsOwn s user =
 -- each user of a history under way holds what its session does
 abbrev pub UsersHoldTheirOwn : Type 0
 UsersHoldTheirOwn =
-    (program : Program) (captures : Captures) (history : List Entry) (nows : List Machine)
+    (program : Program) (captures : Captures) (history : List Entry) (nows : Cast)
     → IsUnderWay program captures history nows
-    → AllByRecursion (HoldsItsOwn (standing_of program.pool history)) nows
+    → AllByRecursion (HoldsItsOwn (standing_of program.pool history)) nows.users
 
 -- each buffer of the pool has just one owner, and no other index has any
 abbrev pub AreOwnedOnce : ℕ → Standing → List Machine → Type 0
@@ -95,28 +95,28 @@ AreOwnedOnce pool s users =
 -- so it is wherever the users of a history are on their way
 abbrev pub BuffersHaveOneOwner : Type 0
 BuffersHaveOneOwner =
-    (program : Program) (captures : Captures) (history : List Entry) (nows : List Machine)
+    (program : Program) (captures : Captures) (history : List Entry) (nows : Cast)
     → IsUnderWay program captures history nows
-    → AreOwnedOnce program.pool (standing_of program.pool history) nows
+    → AreOwnedOnce program.pool (standing_of program.pool history) nows.users
 
 -- Before each entry of the history, and after the last one, it has brought the users to states in
 -- which each buffer has one owner.
 abbrev pub AreAlwaysOwnedOnce : Program → Captures → List Entry → Type 0
 AreAlwaysOwnedOnce program captures history =
     (count : ℕ)
-    → (nows : List Machine)
+    → (nows : Cast)
     × (IsUnderWay program captures (take count history) nows
-    × AreOwnedOnce program.pool (standing_of program.pool (take count history)) nows)
+    × AreOwnedOnce program.pool (standing_of program.pool (take count history)) nows.users)
 
 abbrev pub BuffersAlwaysHaveOneOwner : Type 0
 BuffersAlwaysHaveOneOwner =
-    (program : Program) (captures : Captures) (history : List Entry) (nows : List Machine)
+    (program : Program) (captures : Captures) (history : List Entry) (nows : Cast)
     → IsUnderWay program captures history nows → AreAlwaysOwnedOnce program captures history
 
 -- once a script is played to its end the pool owns all its buffers
 abbrev pub BuffersComeBack : Type 0
 BuffersComeBack =
-    (program : Program) (captures : Captures) (history : List Entry) (users : List Machine) (b : ℕ)
-    → HasPlayed program captures history users
-    → owners_of (standing_of program.pool history) users b
+    (program : Program) (captures : Captures) (history : List Entry) (cast : Cast) (b : ℕ)
+    → HasPlayed program captures history cast
+    → owners_of (standing_of program.pool history) cast.users b
     ≡ (if is_buffer_index program.pool b then Pool ∷ [] else [])

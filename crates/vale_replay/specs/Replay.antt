@@ -75,6 +75,14 @@ pub record PlaysUser (pool : ℕ) (history : List Entry) (before : Machine) (num
   pub no_task : after.tasks ≡ []
   pub ended : NeedsNoCall pool (take (last_of numbers) history) after
 
+-- All users of a script, each where it has come.
+pub record Cast : Type 0 where
+  pub users : List Machine
+
+-- with this user in another state
+abbrev pub with_user : Cast → ℕ → Machine → Cast
+with_user cast user now = record cast { users = slice_set cast.users (user - 1) now }
+
 -- The units of a script.
 
 -- what a unit has one of its users do
@@ -126,13 +134,13 @@ starting share user = resting (record user { tasks = share.tasks user })
 
 -- a relation for each share, from its user's state at the unit's beginning by its numbers to a
 -- state
-abbrev pub EachShare : (UnitShare → Machine → List ℕ → Machine → Type 0) → List Machine → ScriptUnit
+abbrev pub EachShare : (UnitShare → Machine → List ℕ → Machine → Type 0) → Cast → ScriptUnit
     → List (List ℕ) → List Machine → Type 0
-EachShare R users [] [] [] = Unit {0}
-EachShare R users (share ∷ shares) (numbers ∷ lists) (after ∷ afters) =
-    ((before : Machine) × (slice_get users (share.user - 1) ≡ Some before) × R share before numbers after)
-    × EachShare R users shares lists afters
-EachShare R users _ _ _ = ⊥
+EachShare R cast [] [] [] = Unit {0}
+EachShare R cast (share ∷ shares) (numbers ∷ lists) (after ∷ afters) =
+    ((before : Machine) × (slice_get cast.users (share.user - 1) ≡ Some before) × R share before numbers after)
+    × EachShare R cast shares lists afters
+EachShare R cast _ _ _ = ⊥
 
 -- a share's user replays its entries from where the share starts
 abbrev pub ReplaysShare : ℕ → List Entry → UnitShare → Machine → List ℕ → Machine → Type 0
@@ -156,62 +164,68 @@ with_afters (share ∷ shares) [] users = users
 with_afters (share ∷ shares) (after ∷ afters) users =
     with_afters shares afters (slice_set users (share.user - 1) after)
 
+-- the cast behind a unit
+abbrev pub cast_after : ScriptUnit → List Machine → Cast → Cast
+cast_after unit afters cast = record cast { users = with_afters unit afters cast.users }
+
 -- a unit's entries are those behind the first ones up to the last one: with them its users have
 -- done it, and none of them needs a call more
-pub record ReplaysUnit (pool : ℕ) (history : List Entry) (users : List Machine) (first : ℕ) (unit : ScriptUnit) (next : List Machine) (last : ℕ) : Type 0 where
+pub record ReplaysUnit (pool : ℕ) (history : List Entry) (cast : Cast) (first : ℕ) (unit : ScriptUnit) (next : Cast) (last : ℕ) : Type 0 where
   pub lists : List (List ℕ)
   pub afters : List Machine
   pub forward : first ≤ last
   pub within : last ≤ length history
   pub split : AreSplit first last lists
-  pub replays : EachShare (ReplaysShare pool history) users unit lists afters
+  pub replays : EachShare (ReplaysShare pool history) cast unit lists afters
   pub ended : AllByRecursion (NeedsNoCall pool (take last history)) afters
-  pub others : next ≡ with_afters unit afters users
+  pub others : next ≡ cast_after unit afters cast
 
 -- units one after another
-abbrev pub ReplaysUnits : ℕ → List Entry → List Machine → ℕ → List ScriptUnit → List Machine → ℕ
-    → Type 0
-ReplaysUnits pool history users first [] next last = (next ≡ users) × (last ≡ first)
-ReplaysUnits pool history users first (unit ∷ units) next last =
-    (between : List Machine) × ((number : ℕ)
-    × (ReplaysUnit pool history users first unit between number
+abbrev pub ReplaysUnits : ℕ → List Entry → Cast → ℕ → List ScriptUnit → Cast → ℕ → Type 0
+ReplaysUnits pool history cast first [] next last = (next ≡ cast) × (last ≡ first)
+ReplaysUnits pool history cast first (unit ∷ units) next last =
+    (between : Cast) × ((number : ℕ)
+    × (ReplaysUnit pool history cast first unit between number
     × ReplaysUnits pool history between number units next last))
 
 abbrev pub users_of : Program → List Machine
 users_of program = map (new_machine program.pool) (range_with_len 1 (user_count program))
+
+abbrev pub cast_of : Program → Cast
+cast_of program = record { users = users_of program }
 
 -- there are records for each file that the script plays
 abbrev pub HasCaptures : Program → Captures → Type 0
 HasCaptures program captures = length captures ≡ length program.files
 
 -- the history is that of all units of the script, and has brought its users to these states
-pub record HasPlayed (program : Program) (captures : Captures) (history : List Entry) (users : List Machine) : Type 0 where
+pub record HasPlayed (program : Program) (captures : Captures) (history : List Entry) (cast : Cast) : Type 0 where
   pub files : HasCaptures program captures
-  pub units : ReplaysUnits program.pool history (users_of program) 0 (units_of program captures) users (length history)
+  pub units : ReplaysUnits program.pool history (cast_of program) 0 (units_of program captures) cast (length history)
 
 pub record Replays (program : Program) (captures : Captures) (history : List Entry) : Type 0 where
-  pub users : List Machine
-  pub played : HasPlayed program captures history users
+  pub cast : Cast
+  pub played : HasPlayed program captures history cast
 
 -- the history is that of some units of the script and of a part of the next one, whose users it has
 -- brought to these states
-pub record Reaches (program : Program) (captures : Captures) (history : List Entry) (nows : List Machine) : Type 0 where
+pub record Reaches (program : Program) (captures : Captures) (history : List Entry) (nows : Cast) : Type 0 where
   pub files : HasCaptures program captures
   pub count : ℕ
   pub unit : ScriptUnit
   pub there : slice_get (units_of program captures) count ≡ Some unit
-  pub users : List Machine
+  pub cast : Cast
   pub first : ℕ
-  pub units : ReplaysUnits program.pool history (users_of program) 0 (take count (units_of program captures)) users first
+  pub units : ReplaysUnits program.pool history (cast_of program) 0 (take count (units_of program captures)) cast first
   pub forward : first ≤ length history
   pub lists : List (List ℕ)
   pub afters : List Machine
   pub split : AreSplit first (length history) lists
-  pub replays : EachShare (ReplaysShare program.pool history) users unit lists afters
-  pub nows_are : nows ≡ with_afters unit afters users
+  pub replays : EachShare (ReplaysShare program.pool history) cast unit lists afters
+  pub nows_are : nows ≡ cast_after unit afters cast
 
 -- a history that need not be at its end, and the states to which it has brought the users
-abbrev pub IsUnderWay : Program → Captures → List Entry → List Machine → Type 0
+abbrev pub IsUnderWay : Program → Captures → List Entry → Cast → Type 0
 IsUnderWay program captures history nows =
     HasPlayed program captures history nows ⊎ Reaches program captures history nows
 
@@ -221,9 +235,9 @@ is_share_of user share = share.user == user
 -- the history is under way, and this is the call that a user of the unit under way needs next; it
 -- may be a Finish that waits for leases
 pub record ComesTo (program : Program) (captures : Captures) (history : List Entry) (user : ℕ) (call : Ask) : Type 0 where
-  pub nows : List Machine
+  pub nows : Cast
   pub reached : Reaches program captures history nows
   pub of_unit : list_any (is_share_of user) reached.unit ≡ true
   pub now : Machine
-  pub here : slice_get nows (user - 1) ≡ Some now
+  pub here : slice_get nows.users (user - 1) ≡ Some now
   pub called : next_call (standing_of program.pool history).world now ≡ Some call

@@ -128,7 +128,7 @@ played_capture = refl
 
 abbrev saved_at_end : Program → Option Stage → List SavedFile
 saved_at_end program None = []
-saved_at_end program (Some stage) = saved_files program stage.standing.past stage.users
+saved_at_end program (Some stage) = saved_files program stage.standing.past stage.cast.users
 
 abbrev saved_by_script : Captures → Result Program Fault → List SavedFile
 saved_by_script captures (Err fault) = []

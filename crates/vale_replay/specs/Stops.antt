@@ -7,7 +7,7 @@ use Rattle.vale_entry.specs.declared.entry.Entry.{Entry}
 use Rattle.vale_entry.specs.Legal.{world_of}
 use Rattle.vale_script.specs.Script.{Program}
 use Rattle.vale_replay.specs.Machine.{Machine, next_call}
-use Rattle.vale_replay.specs.Replay.{UnitShare, ScriptUnit, EachShare, ReplaysShare, AreSplit, ComesTo, HasCaptures, is_share_of, last_of, units_of, users_of}
+use Rattle.vale_replay.specs.Replay.{Cast, UnitShare, ScriptUnit, EachShare, ReplaysShare, AreSplit, ComesTo, HasCaptures, cast_of, is_share_of, last_of, units_of}
 use Rattle.vale_replay.specs.Joined.{PlaysShare, IsWithin, TurnsOfUnits, lists_in}
 use Rattle.vale_replay.specs.Tasks.{Captures}
 
@@ -35,16 +35,16 @@ pub record HasStopped (program : Program) (captures : Captures) (history : List 
   pub files : HasCaptures program captures
   pub done : ℕ
   pub lists : List (List (List ℕ))
-  pub users : List Machine
+  pub cast : Cast
   pub first : ℕ
-  pub turns : TurnsOfUnits program.pool history (users_of program) 0 (take done (units_of program captures)) lists users first
+  pub turns : TurnsOfUnits program.pool history (cast_of program) 0 (take done (units_of program captures)) lists cast first
   pub unit : ScriptUnit
   pub there : slice_get (units_of program captures) done ≡ Some unit
   pub of_unit : list_any (is_share_of user) unit ≡ true
   pub last : ℕ
   pub unit_lists : List (List ℕ)
   pub afters : List Machine
-  pub works : EachShare (PlaysOrStops program.pool history count user call) users unit unit_lists afters
+  pub works : EachShare (PlaysOrStops program.pool history count user call) cast unit unit_lists afters
   pub inside : AllByRecursion (AllByRecursion (IsWithin first last)) unit_lists
   pub split : AreSplit 0 last (lists_in lists ++ unit_lists)
   pub forward : first ≤ count
@@ -57,7 +57,7 @@ pub record StopsAt (program : Program) (captures : Captures) (history : List Ent
   pub comes : ComesTo program captures (take count history) user call
   pub lists : List (List ℕ)
   pub afters : List Machine
-  pub smaller : EachShare (PlaysIfSmaller program.pool history user) comes.reached.users comes.reached.unit lists afters
+  pub smaller : EachShare (PlaysIfSmaller program.pool history user) comes.reached.cast comes.reached.unit lists afters
 
 abbrev pub UsersStop : Type 0
 UsersStop =

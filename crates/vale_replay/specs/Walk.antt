@@ -1,6 +1,6 @@
 -- The history that a script makes, computed: unit after unit, and each user's calls one after
 -- another. The users of a block run one after another, which is one of the ways in which they may.
-use Rattle.std.specs.Prelude.{ℕ, zero, suc, Bool, false, ◌≡◌, ◌==◌, ◌+◌, ◌-◌, if◌then◌else◌, List, [], ◌∷◌, slice_get, slice_set, Option, Some, None, option_map, option_and_then}
+use Rattle.std.specs.Prelude.{ℕ, zero, suc, Bool, false, ◌≡◌, ◌==◌, ◌+◌, ◌-◌, if◌then◌else◌, List, [], ◌∷◌, slice_get, Option, Some, None, option_map, option_and_then}
 use Rattle.nm_types.specs.declared.id.SessionId.{SessionId}
 use Rattle.vale_entry.specs.declared.entry.Ask.{Ask}
 use Rattle.vale_entry.specs.declared.entry.Entry.{Entry}
@@ -8,7 +8,7 @@ use Rattle.vale_entry.specs.Arrivals.{arrivals_of}
 use Rattle.vale_entry.specs.Legal.{Standing, after, fresh_standing}
 use Rattle.vale_script.specs.Script.{Program}
 use Rattle.vale_replay.specs.Machine.{Machine, next_call, answered, resting}
-use Rattle.vale_replay.specs.Replay.{UnitShare, ScriptUnit, HasCaptures, HasPlayed, caller_of, entry_made, starting, units_of, users_of}
+use Rattle.vale_replay.specs.Replay.{Cast, UnitShare, ScriptUnit, HasCaptures, HasPlayed, caller_of, cast_of, entry_made, starting, units_of, with_user}
 use Rattle.vale_replay.specs.Laws.{HasNoBlock}
 use Rattle.vale_replay.specs.Tasks.{Captures}
 
@@ -51,20 +51,20 @@ walk_calls (suc count) s user = walk_call (walk_calls count) s user (next_call s
 -- what stands, and the users
 pub record Stage : Type 0 where
   pub standing : Standing
-  pub users : List Machine
+  pub cast : Cast
 
-abbrev pub stage_with : List Machine → ℕ → Walked → Stage
-stage_with users at walked =
-    record { standing = walked.standing; users = slice_set users at walked.user }
+abbrev pub stage_with : Cast → ℕ → Walked → Stage
+stage_with cast user walked =
+    record { standing = walked.standing; cast = with_user cast user walked.user }
 
 abbrev pub walk_from : ℕ → Stage → UnitShare → Machine → Option Stage
 walk_from count stage share before =
-    option_map (stage_with stage.users (share.user - 1))
+    option_map (stage_with stage.cast share.user)
     (walk_calls count stage.standing (starting share before))
 
 abbrev pub walk_share : ℕ → Stage → UnitShare → Option Stage
 walk_share count stage share =
-    option_and_then (walk_from count stage share) (slice_get stage.users (share.user - 1))
+    option_and_then (walk_from count stage share) (slice_get stage.cast.users (share.user - 1))
 
 abbrev pub walk_unit : ℕ → Stage → ScriptUnit → Option Stage
 walk_unit count stage [] = Some stage
@@ -79,7 +79,7 @@ walk_units count stage (unit ∷ units) =
 -- a script with its captures, each user with fewer than so many calls in a unit
 abbrev pub walk : ℕ → Program → Captures → Option Stage
 walk count program captures =
-    walk_units count (record { standing = fresh_standing program.pool; users = users_of program })
+    walk_units count (record { standing = fresh_standing program.pool; cast = cast_of program })
     (units_of program captures)
 
 -- a walk to the end of a script without blocks is the history that plays it
@@ -88,4 +88,4 @@ WalksPlay =
     (count : ℕ) (program : Program) (captures : Captures) (stage : Stage)
     → HasNoBlock program → HasCaptures program captures
     → walk count program captures ≡ Some stage
-    → HasPlayed program captures stage.standing.past stage.users
+    → HasPlayed program captures stage.standing.past stage.cast

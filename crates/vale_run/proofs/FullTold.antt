@@ -26,7 +26,7 @@ module _ (limits : Limits) (io : Io) (name : List ℕ) (part : Part) (count : �
   not-done : HistoryOf limits io.files name → ⊥
   not-done h =
       let one = one-ready io.files full.told name full.program full.played full.ready h.program h.played h.ready.has_inputs in
-      let plays : Replays h.program (map frames_of h.played) h.entries = record { users = h.users; played = h.history.plays } in
+      let plays : Replays h.program (map frames_of h.played) h.entries = record { cast = h.cast; played = h.history.plays } in
       let mine = subst (λ (p : Program). Replays p (map frames_of h.played) h.entries) one.0 plays in
       let roomy = subst (λ (p : Program). HadRoom (record_of p.pool limits h.history.region h.entries)) one.0 h.history.roomy in
       not-played full.program (map frames_of full.played) full.no_block limits full.region h.history.region h.entries full.entries full.user full.call part full.used full.want

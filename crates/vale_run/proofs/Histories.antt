@@ -20,8 +20,7 @@ use Rattle.vale_fabric.specs.Fabrics.{record_in}
 use Rattle.vale_script.specs.Script.{Program}
 use Rattle.vale_captures.specs.Inputs.{InputFile, AreInputs, name_of, frames_of}
 use Rattle.vale_captures.specs.Outputs.{OutputFile}
-use Rattle.vale_replay.specs.Machine.{Machine}
-use Rattle.vale_replay.specs.Replay.{HasPlayed}
+use Rattle.vale_replay.specs.Replay.{Cast, HasPlayed}
 use Rattle.vale_replay.specs.Laws.{HaveLeft}
 use Rattle.vale_replay.specs.Stops.{StopsAt}
 use Rattle.vale_replay.proofs.Legal.{played-legal}
@@ -96,16 +95,16 @@ book-is limits program played book ended p =
 
 -- a history that plays the script
 pub is-history : (limits : Limits) (region : ℕ) (program : Program) (played : List InputFile)
-    (history : List Entry) (users : List Machine)
+    (history : List Entry) (cast : Cast)
     → HadRoom (run_record program region limits history) → length history < 2 ^ 32
     → program.pool < 2 ^ 32
-    → HasPlayed program (map frames_of played) history users
-    → IsHistoryOf limits program played history users
-is-history limits region program played history users roomy few small plays =
+    → HasPlayed program (map frames_of played) history cast
+    → IsHistoryOf limits program played history cast
+is-history limits region program played history cast roomy few small plays =
     let captures = map frames_of played in
-    let legal : IsLegal program.pool history = played-legal program captures history users
+    let legal : IsLegal program.pool history = played-legal program captures history cast
     (inl plays) in
-    let left : HaveLeft program.pool history users = users-leave program captures history users
+    let left : HaveLeft program.pool history cast.users = users-leave program captures history cast
     plays in
     record {
       legal = legal;
@@ -114,9 +113,9 @@ is-history limits region program played history users roomy few small plays =
       region = region;
       roomy = roomy;
       delivers = delivers program.pool history legal left.no_session;
-      owned = always-owned-once program captures history users (inl plays);
+      owned = always-owned-once program captures history cast (inl plays);
       left = left;
-      back = λ b. all-back program captures history users b plays;
+      back = λ b. all-back program captures history cast b plays;
     }
 
 -- a run that ended, and whose transcript was written

@@ -41,8 +41,8 @@ module _ (n : ℕ) (book : Recorded) (ended : Result (List OutputFile) StepFault
       (λ r. IfOk r (PlaysScript (load_program n) [] book.entries)) is p.plays in
       record {
         entries = book.entries;
-        users = plays.users;
-        history = is-history VERSION_1 p.fixed.region (load_program n) [] book.entries plays.users
+        cast = plays.cast;
+        history = is-history VERSION_1 p.fixed.region (load_program n) [] book.entries plays.cast
             roomy p.few (omega arith) plays.played;
       }
 

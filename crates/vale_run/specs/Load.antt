@@ -9,9 +9,9 @@ use Rattle.vale_entry.specs.declared.entry.Ask.TheVariants.{Send}
 use Rattle.vale_entry.specs.declared.entry.Entry.{Entry}
 use Rattle.vale_entry.specs.World.{free_count}
 use Rattle.vale_entry.specs.Legal.{world_of}
+use Rattle.vale_replay.specs.Replay.{Cast}
 use Rattle.vale_words.specs.Words.{number_in}
 use Rattle.vale_gen.specs.Load.{load_program}
-use Rattle.vale_replay.specs.Machine.{Machine}
 use Rattle.vale_run.specs.declared.status.Status.{Status}
 use Rattle.vale_run.specs.declared.status.Status.TheVariants.{NoMemory}
 use Rattle.vale_run.specs.Status.{WritesAnswer}
@@ -48,8 +48,8 @@ load_text n pool history =
 -- a history that plays the load of a number; it plays no files
 pub record LoadOf (limits : Limits) (n : ℕ) : Type 0 where
   pub entries : List Entry
-  pub users : List Machine
-  pub history : IsHistoryOf limits (load_program n) [] entries users
+  pub cast : Cast
+  pub history : IsHistoryOf limits (load_program n) [] entries cast
 
 abbrev pub text_in : {limits : Limits} {n : ℕ} → LoadOf limits n → List ℕ
 text_in {n = n} load = load_text n (load_program n).pool load.entries

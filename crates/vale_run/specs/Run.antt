@@ -24,7 +24,7 @@ use Rattle.vale_captures.specs.declared.inputs.InputFault.TheVariants as inputs
 use Rattle.vale_captures.specs.Inputs.{InputFile, HasContents, AreInputs, StopsAtFile, frames_of}
 use Rattle.vale_captures.specs.Outputs.{OutputFile, all_appended, StopsAtOutput}
 use Rattle.vale_replay.specs.Machine.{Machine}
-use Rattle.vale_replay.specs.Replay.{HasPlayed}
+use Rattle.vale_replay.specs.Replay.{Cast, HasPlayed}
 use Rattle.vale_replay.specs.Stops.{HasStopped}
 use Rattle.vale_replay.specs.Laws.{HaveLeft}
 use Rattle.vale_replay.specs.Owners.{AreAlwaysOwnedOnce, Pool, owners_of}
@@ -141,16 +141,16 @@ TellsHistory pool history =
 -- history at most (`plays_one_history` of vale_replay). It is told by its transcript, the record had
 -- room for each of its entries, it delivers each frame, or counts it as dropped, and at every entry each
 -- buffer has one owner. At its end nobody is there, and all buffers are the pool's.
-pub record IsHistoryOf (limits : Limits) (program : Program) (played : List InputFile) (history : List Entry) (users : List Machine) : Type 0 where
+pub record IsHistoryOf (limits : Limits) (program : Program) (played : List InputFile) (history : List Entry) (cast : Cast) : Type 0 where
   pub legal : IsLegal program.pool history
-  pub plays : HasPlayed program (map frames_of played) history users
+  pub plays : HasPlayed program (map frames_of played) history cast
   pub told : TellsHistory program.pool history
   pub region : ℕ
   pub roomy : HadRoom (record { pool = program.pool; region = region; limits = limits; entries = history })
   pub delivers : Delivers program.pool history
   pub owned : AreAlwaysOwnedOnce program (map frames_of played) history
-  pub left : HaveLeft program.pool history users
-  pub back : ComeBack program.pool history users
+  pub left : HaveLeft program.pool history cast.users
+  pub back : ComeBack program.pool history cast.users
 
 -- A run of a script that was read, with its captures.
 pub record HistoryOf (limits : Limits) (files : Option Files) (name : List ℕ) : Type 0 where
@@ -158,14 +158,14 @@ pub record HistoryOf (limits : Limits) (files : Option Files) (name : List ℕ) 
   pub played : List InputFile
   pub ready : IsReady files name program played
   pub entries : List Entry
-  pub users : List Machine
-  pub history : IsHistoryOf limits program played entries users
+  pub cast : Cast
+  pub history : IsHistoryOf limits program played entries cast
 
 abbrev pub text_in : {limits : Limits} {files : Option Files} {name : List ℕ} → HistoryOf limits files name → List ℕ
 text_in h = transcript_text h.program.pool h.entries
 
 abbrev pub saved_in : {limits : Limits} {files : Option Files} {name : List ℕ} → HistoryOf limits files name → List OutputFile
-saved_in h = outputs_of h.program h.entries h.users
+saved_in h = outputs_of h.program h.entries h.cast.users
 
 -- this text was written, and each of these captures is at the end of its file
 pub record WritesWhole (text : List ℕ) (saved : List OutputFile) (io : Io) : Type 0 where

@@ -41,8 +41,8 @@ returns-in-Ok-played-clause-ends g c = λ name ready.
       played = inputs;
       ready = ready;
       entries = book.entries;
-      users = plays.users;
-      history = is-history VERSION_1 p.fixed.region program inputs book.entries plays.users
+      cast = plays.cast;
+      history = is-history VERSION_1 p.fixed.region program inputs book.entries plays.cast
           (subst HadRoom is p.roomy) p.few small plays.played;
     } in
     ends-written VERSION_1 io name run c.write.result
