@@ -1,5 +1,5 @@
 -- One user at a time: it comes, does a line, or leaves.
-use Rattle.std.proofs.Common.{◌≡◌, ℕ, ◌+◌, ◌≤◌, ◌⊎◌, inl, inr, List, [], ◌∷◌, ◌++◌, map, length, Option, Some, None, Result, Ok, Err, OnOk, IfErr, IfOk, Vec, refl, sym, ap, ◌∙◌, subst, arith, append-nil, append_assoc, length-append}
+use Rattle.std.proofs.Common.{◌≡◌, ℕ, ◌+◌, ◌⊎◌, inl, inr, List, [], ◌∷◌, ◌++◌, map, length, Option, Some, None, Result, Ok, Err, OnOk, IfErr, IfOk, Vec, refl, sym, ap, ◌∙◌, subst, arith, append-nil, append_assoc}
 use Rattle.std.specs.declared.alloc.Global.{Global}
 use mathlib.Core.List.{IsPrefix}
 use Rattle.nm_turn.specs.declared.view.Share.{Share}
@@ -36,7 +36,7 @@ use Rattle.vale_act.proofs.DeedTasks.{acts-need}
 use Rattle.vale_act.proofs.Held.{keep-as, keep-then}
 use Rattle.vale_act.proofs.Learning.{joined-mine}
 use Rattle.vale_act.proofs.SharesPasses.{joined-both, cut-whole, made-added, front-free}
-use Rattle.vale_act.proofs.SharesWork.{absent-at, coming-at, full-enter-stop-at, full-stop-at, leaving-at, work-at}
+use Rattle.vale_act.proofs.SharesWork.{absent-at, coming-at, full-enter-stop-at, full-stop-at, leaving-at, work-at, none-added}
 use Rattle.vale_player.proofs.Stays.{user-begins}
 use Rattle.vale_act.proofs.Weights.{add-forks, add-joins, half-not-whole}
 
@@ -59,17 +59,13 @@ made-alone n v w began knows was now added main first last mine =
     let four = front-free n was v [] in
     omega (arith, one, two, three, four)
 
-none-more : {X : Type 0} (xs ys : List X) → xs ≡ xs ++ ys → ys ≡ []
-none-more xs [] e = refl
-none-more xs (y ∷ ys) e = let all = length-append xs (y ∷ ys) in let same = ap length e in absurd (omega (arith, all, same))
-
 made-none : (n : ℕ) (v w : Knowing) (added : List (ℕ × Entry)) → w.mine ≡ v.mine → added ≡ [] → times_made n (w ∷ []) ≡ times_made n (v ∷ []) + times_among n (numbers added ∷ [])
 made-none n v w added same none =
     let one = mine-as n v w [] same in
     let nothing : times_among n (numbers added ∷ []) ≡ 0 = ap (λ (l : List (ℕ × Entry)). times_among n (numbers l ∷ [])) none in
     omega (arith, one, nothing)
 
-same-begins : (v w : Knowing) → w.seen ≡ v.seen → IsPrefix v.seen w.seen
+pub same-begins : (v w : Knowing) → w.seen ≡ v.seen → IsPrefix v.seen w.seen
 same-begins v w same = subst (IsPrefix v.seen) (sym same) (prefix_self v.seen)
 
 -- ---- a user that is not there
@@ -241,7 +237,7 @@ module _ (fabric : Fabric) (number : ℕ) (records : List ℕ → List (List ℕ
         count = length comes.knows.seen;
         call = full.call;
         stops = full.stops;
-        made = λ n. made-none n v w full.stops.replays.added comes.mine (none-more comes.began.mine full.stops.replays.added (sym comes.knows_mine ∙ full.mine));
+        made = λ n. made-none n v w full.stops.replays.added comes.mine (none-added comes.began.mine full.stops.replays.added (sym comes.knows_mine ∙ full.mine));
         forward = full.forward;
         seen = full.seen;
         refusal = full.refusal;

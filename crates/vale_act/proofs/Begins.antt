@@ -1,5 +1,5 @@
 -- Before the first unit nobody has come.
-use Rattle.std.proofs.Common.{◌≡◌, ℕ, zero, suc, ◌+◌, ◌-◌, ◌*◌, ◌^◌, max, List, [], ◌∷◌, ◌++◌, length, replicate, slice_get, Some, refl, sym, ap, ◌∙◌, subst, arith}
+use Rattle.std.proofs.Common.{◌≡◌, ℕ, suc, ◌+◌, ◌-◌, ◌*◌, ◌^◌, max, List, [], ◌∷◌, ◌++◌, length, replicate, slice_get, Some, refl, sym, ap, ◌∙◌, subst, arith}
 use Rattle.std.specs.Prelude.{flat_map}
 use Rattle.nm_turn.specs.Numbered.{numbered}
 use Rattle.nm_turn.specs.declared.view.Share.{Share}
@@ -14,7 +14,7 @@ use Rattle.vale_act.specs.Units.{HaveWhole, HavePlayed, knows_at}
 use Rattle.vale_act.specs.Seats.{AllAre, AreBetween, AreNew, IsHeld, IsSeated}
 use Rattle.vale_act.specs.declared.seat.Seat.{Seat}
 use Rattle.vale_act.specs.declared.seat.Seat.TheVariants.{Away}
-use Rattle.vale_act.proofs.UnitTurns.{play-begins}
+use Rattle.vale_act.proofs.UnitTurns.{play-begins, away-knows}
 
 whole-alone : (p : Share) → IsWhole p → AddUp (p ∷ [])
 whole-alone p is =
@@ -30,14 +30,10 @@ all-away : (seats : List Seat) → AllAre (λ place seat. seat ≡ Away) seats �
 all-away [] all = refl
 all-away (seat ∷ seats) all = ap (λ (s : Seat). s ∷ seats) (all 0 seat refl) ∙ ap (λ (l : List Seat). Away ∷ l) (all-away seats (λ k s at. all (suc k) s at))
 
-nobody : (n : ℕ) → flat_map knows_at (replicate n Away) ≡ []
-nobody zero = refl
-nobody (suc n) = nobody n
-
 pub begins-between : (program : Program) (captures : Captures) (v : Knowing) (seats : List Seat) → AreNew (user_count program) seats → IsWhole v.part → v.seen ≡ [] → v.mine ≡ [] → AreBetween program captures 0 v seats
 begins-between program captures v seats new whole seen mine =
     let are : seats ≡ replicate (user_count program) Away = all-away seats new.away ∙ ap (λ (n : ℕ). replicate n Away) new.len in
-    let none : flat_map knows_at seats ≡ [] = ap (λ (l : List Seat). flat_map knows_at l) are ∙ nobody (user_count program) in
+    let none : flat_map knows_at seats ≡ [] = ap (λ (l : List Seat). flat_map knows_at l) are ∙ away-knows (user_count program) in
     record {
       seated = λ place seat at. subst (IsSeated (place + 1)) (sym (new.away place seat at)) tt;
       count = new.len;

@@ -7,6 +7,7 @@ use Rattle.std.proofs.lemmas.Option.{slice_get_within}
 use mathlib.Core.List.{IsPrefix}
 use lib.ListN.{length-map}
 use Rattle.std.proofs.lemmas.List.{length-append}
+use Rattle.std.proofs.lemmas.List.FromFn.{length-range_with_len}
 use Rattle.nm_turn.specs.Numbered.{numbers}
 use Rattle.nm_turn.proofs.Prefixes.{prefix_self, prefix_trans, prefix_length}
 use Rattle.nm_types.specs.declared.fault.StepFault.{StepFault}
@@ -115,17 +116,13 @@ closing-at program captures place less =
     let e : 1 + place ≡ place + 1 = omega arith in
     ap (λ (n : ℕ). slice_get (front ++ back) (n + place)) (sym long) ∙ (behind front back place ∙ (in-range 1 (user_count program) place less ∙ ap (λ (k : ℕ). Some (closing_unit k)) e))
 
-range-length : (first n : ℕ) → length (range_with_len first n) ≡ n
-range-length first zero = refl
-range-length first (suc n) = ap suc (range-length (first + 1) n)
-
 all-units : (program : Program) (captures : Captures) → length (units_of program captures) ≡ length program.units + user_count program
 all-units program captures =
     let front = map (shares_of (records_of program.files captures) (user_count program)) program.units in
     let back = map closing_unit (range_with_len 1 (user_count program)) in
     let one : length front ≡ length program.units = length-map program.units (shares_of (records_of program.files captures) (user_count program)) in
     let two : length back ≡ length (range_with_len 1 (user_count program)) = length-map (range_with_len 1 (user_count program)) closing_unit in
-    let three = range-length 1 (user_count program) in
+    let three = length-range_with_len 1 (user_count program) in
     let all = length-append front back in
     omega (arith, one, two, three, all)
 

@@ -12,6 +12,7 @@ use Rattle.vale_entry.proofs.HistoryLaws.{history-stands}
 use Rattle.vale_own.specs.There.{is_coming, is_leave_of, is_leaving, has_come, has_left}
 use Rattle.vale_own.proofs.Coming.{there-come}
 use Rattle.vale_replay.proofs.Leaving.{no-members, no-ports}
+use Rattle.vale_replay.proofs.Comers.{met-within}
 use Rattle.vale_act.specs.Leaving.{AllLeave, EntersOnlyAt, HasMadeLeave}
 
 -- ---- a session that is there has come and has not left
@@ -20,11 +21,6 @@ pub record Came (h : List Entry) (session : ℕ) : Type 0 where
   pub low : 0 < session
   pub high : session ≤ length h
   pub comes : (entry : Entry) → slice_get h (session - 1) ≡ Some entry → is_coming entry ≡ true
-
-met-within : (h : List Entry) (n : ℕ) → is_met is_coming (slice_get h n) ≡ true → suc n ≤ length h
-met-within [] n e = absurd cc
-met-within (x ∷ h) zero e = omega arith
-met-within (x ∷ h) (suc n) e = let rest = met-within h n e in omega (arith, rest)
 
 came-by : (h : List Entry) (session : ℕ) → has_come h session ≡ true → Came h session
 came-by h zero e = absurd cc

@@ -1,5 +1,6 @@
 -- Which session comes by the pass of a user at work.
 use Rattle.std.proofs.Common.{ℕ, ◌-◌, ◌≡◌, ◌⊎◌, inl, inr, Bool, true, false, cond, List, [], ◌∷◌, ◌++◌, length, slice_get, Some, None, refl, sym, ◌∙◌, ap, subst}
+use Rattle.std.proofs.lemmas.Option.{same_Some}
 use Rattle.std.specs.List.{AllByRecursion}
 use mathlib.Core.List.{IsPrefix}
 use Rattle.nm_types.specs.declared.id.SessionId.{SessionId}
@@ -26,7 +27,6 @@ use Rattle.vale_replay.specs.Tasks.{Task, Arrive}
 use Rattle.vale_replay.specs.Machine.{Machine, at_rest, is_settling, new_machine, resting, with_tasks}
 use Rattle.vale_replay.specs.Replay.{TakesTurn, TakesTurns, standing_before}
 use Rattle.vale_replay.proofs.Enters.{ask-by}
-use Rattle.vale_replay.proofs.Turns.{some-same}
 use Rattle.vale_player.specs.Users.{HasCome, Works}
 use Rattle.vale_player.specs.Laws.{NeedsSession}
 use Rattle.vale_player.specs.Players.{PlayerState, machine_of}
@@ -123,7 +123,7 @@ behind-enter pool number h n between turn =
     came-in = arrivals_of (standing_before pool h n) turn.entry.ask turn.entry.reply
 
     asked : Enter number ≡ turn.ask
-    asked = some-same (Enter number) turn.ask turn.asked
+    asked = same_Some (Enter number) turn.ask turn.asked
 
     plain : is_settling turn.entry.ask ≡ false
     plain = ap is_settling (ask-by turn.ask turn.entry (step (standing_before pool h n) turn.ask) turn.made) ∙ ap (λ (a : Ask). is_settling (kept_ask a)) (sym asked)
@@ -165,7 +165,7 @@ entered-only pool number session v (x ∷ xs) after mine turns has k st = by (su
     here : x.0 ≡ session
     here =
         let last = stays-in x.0 pool v.seen turns.0 (numbers xs) after turns.1.1 within in
-        ap (λ (s : SessionId). s.0) (some-same (record { 0 = x.0 }) (record { 0 = session }) (sym last.session_is ∙ has))
+        ap (λ (s : SessionId). s.0) (same_Some (record { 0 = x.0 }) (record { 0 = session }) (sym last.session_is ∙ has))
 
     by : (k ≡ x.0) ⊎ Stands k xs → EntersOnlyAt (λ n. n ≡ session) v k
     by (inl is) = record { entry = first.entry; there = ap (λ (n : ℕ). slice_get v.seen (n - 1)) is ∙ first.there; enters = λ comes. is ∙ here }

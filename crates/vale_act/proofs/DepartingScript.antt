@@ -3,7 +3,6 @@ use Rattle.std.proofs.Common.{◌≡◌, ℕ, List, [], ◌∷◌, slice_get, sl
 use mathlib.Core.List.{IsPrefix}
 use Rattle.nm_turn.specs.Numbered.{numbered}
 use Rattle.nm_turn.specs.Passes.{Knows, joined_view}
-use Rattle.nm_turn.proofs.Prefixes.{prefix_self}
 use Rattle.nm_types.specs.declared.fault.StepFault.{StepFault}
 use Rattle.nm_user.specs.Leaving.{IsLeft}
 use Rattle.nm_user.specs.Sessions.{IsThere}
@@ -27,6 +26,7 @@ use Rattle.vale_act.proofs.DepartingPasses.{learned-leaves, nobody-came}
 use Rattle.vale_act.proofs.DepartingPlayers.{doer-alone, entered-alone, leaver-leaves, runner-alone, stopped-alone}
 use Rattle.vale_act.proofs.DepartingSeats.{forked-alone, learner-alone, seat-leaves, seats-leave}
 use Rattle.vale_act.proofs.DepartingTurns.{lines-keep}
+use Rattle.vale_act.proofs.Alone.{same-begins}
 
 -- ---- one seat
 
@@ -46,12 +46,9 @@ told-alone w (There p fault) after told alone =
 main-leaves : (v w : Knowing) → w.mine ≡ v.mine → IsPrefix v.seen w.seen → EachLeaves v → EachLeaves w
 main-leaves v w mine begins each = learned-leaves v w mine begins each
 
-as-seen : (v w : Knowing) → w.seen ≡ v.seen → IsPrefix v.seen w.seen
-as-seen v w seen = subst (IsPrefix v.seen) (sym seen) (prefix_self v.seen)
-
 pub meets-leaving : (v w : Knowing) (before after : Seat) → Meets v w before after → SeatStillLeaves v w before after
 meets-leaving v w before after meets each alone =
-    (main-leaves v w meets.mine (as-seen v w meets.seen) each, met-alone v before after meets.seat alone)
+    (main-leaves v w meets.mine (same-begins v w meets.seen) each, met-alone v before after meets.seat alone)
 
 pub tells-leaving : (v w : Knowing) (before after : Seat) → Tells v w before after → SeatStillLeaves v w before after
 tells-leaving v w before after tells each alone =
@@ -92,7 +89,7 @@ module _ (records : List ℕ → List (List ℕ)) where
       → MeetAll v m befores mets → AreEach (λ place. HasRun records lines) mets rans → TellAll m w rans afters → CanStillLeave v w befores afters
   block-leaving lines v m w befores mets rans afters met ran told can =
       let meets : CanAllLeave m mets =
-      seats-leave v m befores mets met.seats.len (main-leaves v m met.mine (as-seen v m met.seen) can.each)
+      seats-leave v m befores mets met.seats.len (main-leaves v m met.mine (same-begins v m met.seen) can.each)
       (λ place before after one two alone. met-alone v before after (met.seats.each place before after one two) alone) can in
       let runs : CanAllLeave m rans =
       seats-leave m m mets rans ran.len meets.each (λ place before after one two alone.
@@ -105,7 +102,7 @@ module _ (records : List ℕ → List (List ℕ)) where
 
 pub comes-leaving : (fabric : Fabric) (number : ℕ) (v m w : Knowing) (p : PlayerState) (before after : Seat) → Comes fabric number v m p → Tells m w (There p None) after → SeatStillLeaves v w before after
 comes-leaving fabric number v m w p before after comes tells each alone =
-    tells-leaving m w (There p None) after tells (main-leaves v m comes.mine (as-seen v m comes.seen) each) (entered-alone fabric comes.began number p comes.began_mine comes.entered)
+    tells-leaving m w (There p None) after tells (main-leaves v m comes.mine (same-begins v m comes.seen) each) (entered-alone fabric comes.began number p comes.began_mine comes.entered)
 
 pub stays-leaving : (fixed : Fixed) (number : ℕ) (v w : Knowing) (fault : StepFault) (seat : Seat) → ComesNot fixed number v w fault → SeatStillLeaves v w seat seat
 stays-leaving fixed number v w fault seat comes each alone = (main-leaves v w comes.mine comes.begins each, alone)

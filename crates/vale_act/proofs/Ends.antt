@@ -1,9 +1,7 @@
 -- A script behind its last unit, or behind the one that a full record has stopped, and all users gone.
-use Rattle.std.proofs.Common.{◌≡◌, ℕ, ◌+◌, ◌-◌, ◌*◌, ◌^◌, ◌≤◌, max, List, [], ◌∷◌, ◌++◌, length, map, take, slice_get, Some, Result, Ok, Err, OnOk, IfErr, refl, sym, ap, ◌∙◌, subst, arith}
+use Rattle.std.proofs.Common.{◌≡◌, ℕ, ◌+◌, ◌-◌, ◌*◌, ◌^◌, max, List, [], ◌∷◌, ◌++◌, length, map, take, slice_get, Some, Result, Ok, Err, OnOk, IfErr, refl, sym, ap, ◌∙◌, subst, arith}
 use Rattle.std.specs.Prelude.{flat_map}
-use Rattle.std.proofs.lemmas.List.{take-append-le}
 use lib.ListN.{length-map}
-use mathlib.Core.List.{IsPrefix}
 use Rattle.nm_turn.specs.Numbered.{numbered}
 use Rattle.nm_turn.specs.declared.view.Share.{Share}
 use Rattle.nm_turn.specs.Shares.{IsWhole, AddUp}
@@ -19,6 +17,7 @@ use Rattle.vale_captures.specs.Inputs.{InputFile, name_of, frames_of}
 use Rattle.vale_replay.specs.Replay.{HasCaptures}
 use Rattle.vale_replay.specs.Tasks.{Captures}
 use Rattle.vale_player.specs.Inputs.{captures_of, names_of}
+use Rattle.vale_player.proofs.Keeping.{take-longer}
 use Rattle.vale_act.specs.Units.{knows_at}
 use Rattle.vale_act.specs.Seats.{AreBetween, AreSeated, AreStopped, ClosesAll, IsHeld, IsScriptStop, IsScriptStopped, ScriptPlayed}
 use Rattle.vale_act.specs.declared.seat.Seat.{Seat}
@@ -34,9 +33,6 @@ alone-whole p up =
     let all : p.share * 2 ^ (d - p.depth) + 0 ≡ 2 ^ d = up in
     let same : 2 ^ d ≡ 2 ^ p.depth = ap (λ (n : ℕ). 2 ^ n) deep in
     omega (arith, one, all, same)
-
-take-in : (h k : List Entry) (n : ℕ) → IsPrefix h k → n ≤ length h → take n k ≡ take n h
-take-in h k n begins within = ap (take n) (sym begins.1) ∙ take-append-le n h begins.0 within
 
 module _ (m w : Knowing) (befores afters : List Seat) (pool : ℕ) (closes : ClosesAll pool m w befores afters) (held : IsHeld m (flat_map knows_at befores)) where
   end-held : IsHeld w []
@@ -70,7 +66,7 @@ module _ (fabric : Fabric) (program : Program) (inputs : List InputFile) (files 
         call = s.call;
         stopped = stop-whole program (captures_of inputs) (fixed_in fabric) stop.done stop.unit s.user s.count s.call fault stop.main m w stop.seats befores afters
             has-captures (sym pool) stop.there stop.played s.stops closes.begins closes.made closes.gone (end-mine m w befores afters (fixed_in fabric).pool closes held);
-        refusal = subst (λ (h : List Entry). IsRefusal (record_in (fixed_in fabric) h) s.call fault) (sym (take-in m.seen w.seen s.count closes.begins s.stops.seen)) s.stops.refusal;
+        refusal = subst (λ (h : List Entry). IsRefusal (record_in (fixed_in fabric) h) s.call fault) (sym (take-longer m.seen w.seen s.count closes.begins s.stops.seen)) s.stops.refusal;
       }
 
   pub ends-stopped : (fault : StepFault) → AreStopped (fixed_in fabric) program (captures_of inputs) m befores fault → IsScriptStopped (fixed_in fabric) program (captures_of inputs) w.seen fault

@@ -1,8 +1,9 @@
 -- A block, whose users have their lines one behind another.
 use Rattle.std.proofs.Common.{ℕ, zero, suc, ◌+◌, ◌-◌, ◌<◌, ◌≡◌, ◌⊎◌, inl, inr, Bool, true, false, cond, List, [], ◌∷◌, ◌++◌, length, map, filter, slice_get, slice_set, Some, refl, sym, ◌∙◌, ap, subst, arith, append_assoc, length-append}
-use Rattle.std.specs.Prelude.{◌==◌, ◌||◌, flat_map}
+use Rattle.std.specs.Prelude.{◌==◌, flat_map}
 use Rattle.std.specs.List.{range_with_len, list_any, AllByRecursion}
 use Rattle.std.proofs.lemmas.Bool.{cases_Bool, eq-eqb}
+use Rattle.nm_types.proofs.Tests.{or_first, or_second}
 use Rattle.nm_turn.specs.Numbered.{numbers}
 use Rattle.vale_entry.specs.declared.entry.Ask.{Ask}
 use Rattle.vale_entry.specs.declared.entry.Entry.{Entry}
@@ -305,13 +306,6 @@ record StopIn (pool number count user : ℕ) (call : Ask) (main next : Knowing) 
   from : StopFrom pool number count user call main next shares befores afters
   there : list_any (is_share_of user) shares ≡ true
 
-or-first : (a b : Bool) → a ≡ true → (a || b) ≡ true
-or-first a b e = ap (λ (x : Bool). x || b) e
-
-or-rest : (a b : Bool) → b ≡ true → (a || b) ≡ true
-or-rest true b e = refl
-or-rest false b e = e
-
 stop-from : (pool number left count user : ℕ) (call : Ask) (records : List ℕ → List (List ℕ)) (lines : List Line) (main next : Knowing) (befores afters : List Seat) → number + left ≡ user
     → StopBlockFrom pool number left records lines count call main next befores afters → StopIn pool number count user call main next (shares_from records lines number (length befores)) befores afters
 stop-from pool number zero count user call records lines main next [] afters at all = absurd all
@@ -326,7 +320,7 @@ stop-from pool number zero count user call records lines main next (before ∷ b
     subst (λ (s : ScriptUnit). StopIn pool number count user call main next s (before ∷ befores) (after ∷ afters)) (sym (shares-more records lines number (length befores) all.0.there))
     (record {
       from = stop-more pool number count user call main next share shares before after befores afters refl (at-same pool number count user call records lines main next before after same all.0) rest;
-      there = or-first (number == user) (list_any (is_share_of user) shares) (eq-eqb number user same);
+      there = or_first (number == user) (list_any (is_share_of user) shares) (eq-eqb number user same);
     })
 stop-from pool number (suc left) count user call records lines main next (before ∷ befores) (after ∷ afters) at all =
     by_line (cases_Bool (has_line lines number)) (stop-from pool (number + 1) left count user call records lines main next befores afters (omega (arith, at)) all.1)
@@ -342,7 +336,7 @@ stop-from pool number (suc left) count user call records lines main next (before
         (record {
           from = stop-more pool number count user call main next (share_of records number (acts_of lines number)) (shares_from records lines (number + 1) (length befores)) before after befores afters refl
               (at-smaller pool number count user call records lines main next before after less all.0) rest.from;
-          there = or-rest (number == user) (list_any (is_share_of user) (shares_from records lines (number + 1) (length befores))) rest.there;
+          there = or_second (number == user) (list_any (is_share_of user) (shares_from records lines (number + 1) (length befores))) rest.there;
         })
     by_line (inr e) rest =
         subst (λ (s : ScriptUnit). StopIn pool number count user call main next s (before ∷ befores) (after ∷ afters)) (sym (shares-idle records lines number (length befores) e))

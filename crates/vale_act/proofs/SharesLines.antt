@@ -1,8 +1,7 @@
 -- What users at work, and those that have nothing to do, make of a block.
-use Rattle.std.proofs.Common.{ℕ, ◌+◌, ◌≡◌, ◌⊎◌, inl, inr, Bool, true, false, cond, List, [], ◌∷◌, ◌++◌, map, filter, Option, Some, None, refl, sym, ◌∙◌, ap, subst, arith}
-use Rattle.std.specs.Prelude.{◌==◌, ◌||◌, option_and_then}
+use Rattle.std.proofs.Common.{ℕ, ◌+◌, ◌≡◌, ◌⊎◌, Bool, true, false, List, [], ◌∷◌, ◌++◌, Option, Some, None, refl, sym, ◌∙◌, ap, subst, arith}
+use Rattle.std.specs.Prelude.{option_and_then}
 use Rattle.std.specs.Option.{option_or}
-use Rattle.std.proofs.lemmas.Bool.{cases_Bool}
 use Rattle.nm_types.specs.declared.id.SessionId.{SessionId}
 use Rattle.nm_types.specs.declared.fault.StepFault.{StepFault}
 use Rattle.nm_types.specs.declared.fault.StepFault.TheVariants.{RecordFull}
@@ -10,13 +9,13 @@ use Rattle.nm_turn.specs.Numbered.{numbers}
 use Rattle.vale_entry.specs.declared.entry.Entry.{Entry}
 use Rattle.vale_entry.specs.Legal.{standing_of}
 use Rattle.vale_fabric.specs.Fabrics.{Knowing}
-use Rattle.vale_script.specs.declared.script.Line.{Line}
 use Rattle.vale_replay.specs.Tasks.{Task, tasks_of_lines}
 use Rattle.vale_replay.specs.Machine.{Machine, call_of_tasks, next_call, resting, settling_call}
-use Rattle.vale_replay.specs.Replay.{PlaysUser, act_of, acts_of, has_line, is_of_user, times_among}
+use Rattle.vale_replay.specs.Replay.{PlaysUser, has_line, times_among}
 use Rattle.vale_act.specs.declared.seat.Seat.{Seat}
 use Rattle.vale_act.specs.declared.seat.Seat.TheVariants.{Away, There, Gone}
 use Rattle.vale_player.specs.Players.{PlayerState, machine_of}
+use Rattle.vale_player.proofs.LinesRun.{none-of}
 use Rattle.vale_act.specs.Units.{HasMade, IsFullAt, IsUserAt, StaysAt, StopsInWork, WorksAt, knows_at, lines_tasks, times_made, PlayerPlaysLines, PlayerStopsInLines, PlayerIsFullInLines, WorkIsOfBlock, StopIsOfBlock, FullStopIsOfBlock, IdleIsOfBlock, AbsentIsOfBlock, PlayIsReplay}
 use Rattle.vale_act.proofs.SharesPasses.{made-added}
 use Rattle.vale_act.proofs.SharesWork.{absent-at, full-stop-at, stop-at, work-at}
@@ -68,16 +67,6 @@ play-replays pool number records lines main next before after plays = record {
 
 -- ---- users that have none
 
-acts-none : (lines : List Line) (number : ℕ) → has_line lines number ≡ false → acts_of lines number ≡ []
-acts-none [] number none = refl
-acts-none (line ∷ lines) number none = by_line (cases_Bool (line.user == number)) (acts-none lines number)
-  where
-    by_line : ((line.user == number) ≡ true) ⊎ ((line.user == number) ≡ false) → (has_line lines number ≡ false → acts_of lines number ≡ []) → acts_of (line ∷ lines) number ≡ []
-    by_line (inl e) rest = let clash : true ≡ false = ap (λ (b : Bool). b || has_line lines number) (sym e) ∙ none in absurd cc
-    by_line (inr e) rest =
-        let left : List Line = filter (is_of_user number) lines in
-        ap (λ (b : Bool). map act_of (cond b (line ∷ left) left)) e ∙ rest (ap (λ (b : Bool). b || has_line lines number) (sym e) ∙ none)
-
 -- before all entries a user that has nothing to do needs no call
 owes-first : (pool : ℕ) (session : Option SessionId) → option_or (option_and_then (settling_call (standing_of pool []).world) session) None ≡ None
 owes-first pool None = refl
@@ -121,7 +110,7 @@ idle-of-block pool number records lines main next before after none stays = reco
   plays = record {
     added = [];
     plays = λ user at.
-        let left : lines_tasks records lines number user ≡ [] = ap (tasks_of_lines records) (acts-none lines number none) in
+        let left : lines_tasks records lines number user ≡ [] = ap (tasks_of_lines records) (none-of lines number none) in
         let same : resting (record user { tasks = lines_tasks records lines number user }) ≡ record user { tasks = [] } = ap (λ (ts : List Task). resting (record user { tasks = ts })) left in
         (user, (subst (λ (m : Machine). PlaysUser pool next.seen m [] user) (sym same) (plays-none pool next.seen user (no-task pool number before user at)), still-user pool number before after user stays at));
     inside = tt;

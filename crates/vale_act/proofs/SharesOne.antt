@@ -1,7 +1,8 @@
 -- Units of one user.
-use Rattle.std.proofs.Common.{ℕ, ◌+◌, ◌-◌, ◌≤◌, ◌≡◌, [], ◌∷◌, refl, ap, subst, arith, true, Bool}
-use Rattle.std.specs.Prelude.{◌==◌, ◌||◌}
+use Rattle.std.proofs.Common.{ℕ, ◌+◌, ◌-◌, ◌≤◌, ◌≡◌, [], ◌∷◌, refl, subst, arith}
+use Rattle.std.specs.Prelude.{◌==◌}
 use Rattle.std.proofs.lemmas.Bool.{eq-eqb}
+use Rattle.nm_types.proofs.Tests.{or_first}
 use Rattle.nm_turn.specs.Numbered.{numbers}
 use Rattle.vale_replay.specs.Machine.{Machine}
 use Rattle.vale_act.specs.declared.seat.Seat.{Seat}
@@ -27,9 +28,6 @@ share-unit pool share main next seats before after here some begins plays made =
   made = λ n. made-share n main next seats (share.user - 1) before after (numbers plays.added ∷ []) here (made n);
 }
 
-or-true : (a b : Bool) → a ≡ true → (a || b) ≡ true
-or-true a b e = ap (λ (x : Bool). x || b) e
-
 pub share-stops : ShareStops
 share-stops fixed share count call fault main next seats before after here some begins stops made forward seen refusal = record {
   begins = begins;
@@ -41,7 +39,7 @@ share-stops fixed share count call fault main next seats before after here some 
       (went.0 ∷ [], ((found.user, found.here, record { replays = went.1; smaller = λ less. absurd (omega (arith, less)); stops = λ is. stops.stops found.user at }), tt));
   inside = (stops.replays.inside, tt);
   made = λ n. made-share n main next seats (share.user - 1) before after (numbers stops.replays.added ∷ []) here (made n);
-  of_unit = or-true (share.user == share.user) _ (eq-eqb share.user share.user refl);
+  of_unit = or_first (share.user == share.user) _ (eq-eqb share.user share.user refl);
   forward = forward;
   seen = seen;
   refusal = refusal;

@@ -1,5 +1,6 @@
 -- How often an entry stands among the own ones of passes.
-use Rattle.std.proofs.Common.{ℕ, ◌+◌, ◌≡◌, ◌==◌, List, [], ◌∷◌, ◌++◌, refl, ◌∙◌, ap, arith}
+use Rattle.std.proofs.Common.{ℕ, ◌+◌, ◌≡◌, ◌==◌, List, [], ◌∷◌, ◌++◌, ◌∙◌, ap, arith}
+use Rattle.vale_player.proofs.Working.{numbers-then}
 use Rattle.nm_turn.specs.Numbered.{numbers}
 use Rattle.nm_turn.proofs.Joining.{counted-merged}
 use Rattle.vale_entry.specs.declared.entry.Entry.{Entry}
@@ -35,10 +36,6 @@ cut-whole n v kept given passes mine none =
     let same = counts-of n kept.mine v.mine mine in
     let nothing : count_of n (numbers given.mine) ≡ 0 = ap (λ (l : List (ℕ × Entry)). count_of n (numbers l)) none in
     omega (arith, one, two, same, nothing)
-
-numbers-then : (xs ys : List (ℕ × Entry)) → numbers (xs ++ ys) ≡ numbers xs ++ numbers ys
-numbers-then [] ys = refl
-numbers-then (x ∷ xs) ys = ap (λ (ns : List ℕ). x.0 ∷ ns) (numbers-then xs ys)
 
 pub made-added : AddedIsMade
 made-added n v w added passes mine =

@@ -166,7 +166,7 @@ leaving-at pool p met left main next fault saves same here of saved leaves low h
 
 -- ---- a user that is not there
 
-none-added : {X : Type 0} (xs ys : List X) → xs ≡ xs ++ ys → ys ≡ []
+pub none-added : {X : Type 0} (xs ys : List X) → xs ≡ xs ++ ys → ys ≡ []
 none-added xs [] e = refl
 none-added xs (y ∷ ys) e = let all = length-append xs (y ∷ ys) in let same = ap length e in absurd (omega (arith, all, same))
 

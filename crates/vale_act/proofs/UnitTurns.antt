@@ -32,7 +32,7 @@ away-users : (pool number count : ℕ) → AreUsersFrom pool number (replicate c
 away-users pool number zero = tt
 away-users pool number (suc count) = (refl, away-users pool (number + 1) count)
 
-away-knows : (count : ℕ) → flat_map knows_at (replicate count Away) ≡ []
+pub away-knows : (count : ℕ) → flat_map knows_at (replicate count Away) ≡ []
 away-knows zero = refl
 away-knows (suc count) = away-knows count
 

@@ -3,6 +3,7 @@ use Rattle.std.proofs.Common.{ℕ, ◌+◌, ◌*◌, ◌≤◌, Bool, true, fals
 use Rattle.std.specs.List.{AllByRecursion}
 use Rattle.std.proofs.lemmas.List.{length-map, length-drop}
 use Rattle.std.proofs.lemmas.List.Sums.{sum_by-cons}
+use Rattle.nm_types.proofs.Lists.{each-joined}
 use Rattle.nm_io.specs.Files.{Files}
 use Rattle.pcap_io.specs.Capture.{Reader, AreRecords, number_in}
 use Rattle.pcap_io.specs.Limits.{head_bytes, header_bytes}
@@ -27,10 +28,6 @@ sum-few f most (x ∷ xs) all =
     let first = all.0 in
     let sum = sum_by-cons f x xs in
     grind (arith, rest, first, sum)
-
-all-append : {A : Type 0} (P : A → Type 0) (xs ys : List A) → AllByRecursion P xs → AllByRecursion P ys → AllByRecursion P (xs ++ ys)
-all-append P [] ys one two = two
-all-append P (x ∷ xs) ys one two = (one.0, all-append P xs ys one.1 two)
 
 -- ---- lines
 
@@ -62,7 +59,7 @@ unit-few users (parts.Block ls) sound = lines-few users ls sound
 
 units-few : (users : ℕ) (units : List Part) → AllByRecursion (IsSoundUnit users) units → AllByRecursion (λ (act : Act). count_of act ≤ 1000000) (flat_map acts_of_unit units)
 units-few users [] sound = tt
-units-few users (unit ∷ units) sound = all-append (λ (act : Act). count_of act ≤ 1000000) (acts_of_unit unit) (flat_map acts_of_unit units) (unit-few users unit sound.0) (units-few users units sound.1)
+units-few users (unit ∷ units) sound = each-joined (λ (act : Act). count_of act ≤ 1000000) (acts_of_unit unit) (flat_map acts_of_unit units) (unit-few users unit sound.0) (units-few users units sound.1)
 
 pub counts-few : CountsFew
 counts-few script program is sound short =

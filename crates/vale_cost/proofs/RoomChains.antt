@@ -1,5 +1,6 @@
 -- A user's turns, one after another, spend what their entries cost.
 use Rattle.std.proofs.Common.{ℕ, ◌<◌, ◌≡◌, Bool, true, false, cond, List, [], ◌∷◌, Option, Some, None, option_map, refl, sym, ap, subst, arith}
+use Rattle.std.proofs.lemmas.Option.{same_Some}
 use Rattle.std.specs.Prelude.{option_and_then}
 use Rattle.std.specs.Option.{option_or}
 use Rattle.nm_types.specs.declared.id.PortId.{PortId}
@@ -21,7 +22,6 @@ use Rattle.vale_own.proofs.SideEntries.{transmits-of, receives-of, finishes-of}
 use Rattle.vale_replay.specs.Tasks.{Task, Arrive, OpenPort, PutFrame, SendFrames, TakeFrames, ChangeOwn, SaveFrames, WatchPort, ReadCounts, ShutPort, FinishPort, Depart, EndLine}
 use Rattle.vale_replay.specs.Machine.{Machine, answered, call_of_tasks, done_call, enter_call, grant_call, is_settling, next_call, next_offer, owed_lot, resting, settling_call, with_tasks}
 use Rattle.vale_replay.specs.Replay.{entry_of}
-use Rattle.vale_replay.proofs.Turns.{some-same}
 use Rattle.vale_replay.proofs.Behind.{own-on}
 use Rattle.vale_cost.proofs.RoomViews.{AreBelow, below-later, views}
 use Rattle.vale_cost.proofs.RoomTidy.{SizesFit, own-below}
@@ -85,7 +85,7 @@ module _ (pool : ℕ) (past : List Entry) (k number : ℕ) (user : Machine) (bel
       (transmits-of pool past made.session None user.own t.port t.ring made.reply (by-id user.own name t.port below.tidy t.named) t.has (ap (option_map session_and_reply) is)) is)
 
   of-enter : (session : Option SessionId) (ask : Ask) → enter_call user.number session ≡ Some ask → Goal ask
-  of-enter None ask call = subst Goal (some-same (Enter user.number) ask call) (λ is. still)
+  of-enter None ask call = subst Goal (same_Some (Enter user.number) ask call) (λ is. still)
   of-enter (Some x) ask call = absurd cc
 
   of-head : (tasks : List Task) (ask : Ask) → call_of_tasks user tasks ≡ Some ask → Goal ask
@@ -110,8 +110,8 @@ module _ (pool : ℕ) (past : List Entry) (k number : ℕ) (user : Machine) (bel
   of-call ask called = by user.session called
     where
       by-offer : (lot : Option Lot) (offer : Option Offer) → option_or (option_or (option_map done_call lot) (option_map grant_call offer)) (call_of_tasks user user.tasks) ≡ Some ask → Goal ask
-      by-offer (Some lot) offer e = subst Goal (some-same (done_call lot) ask e) (λ is. still)
-      by-offer None (Some offer) e = subst Goal (some-same (grant_call offer) ask e) (λ is. still)
+      by-offer (Some lot) offer e = subst Goal (same_Some (done_call lot) ask e) (λ is. still)
+      by-offer None (Some offer) e = subst Goal (same_Some (grant_call offer) ask e) (λ is. still)
       by-offer None None e = of-head user.tasks ask e
 
       by : (session : Option SessionId) → option_or (option_and_then (settling_call (standing_of pool past).world) session) (call_of_tasks user user.tasks) ≡ Some ask → Goal ask

@@ -61,7 +61,7 @@ cheap-from pool h (e ∷ es) legal rest cheap =
 pub histories-cheap : HistoriesAreCheap
 histories-cheap pool h legal = cheap-from pool [] h tt legal (record { room = omega arith; bytes = omega arith })
 
-bytes-kept : (ask : Ask) (reply : Reply) → bytes_of (kept_ask ask) reply ≡ bytes_of ask reply
+pub bytes-kept : (ask : Ask) (reply : Reply) → bytes_of (kept_ask ask) reply ≡ bytes_of ask reply
 bytes-kept (Enter user) reply = refl
 bytes-kept _ reply = refl
 

@@ -15,6 +15,7 @@ use Rattle.vale_captures.specs.Counting.{count_of, frames_by}
 use Rattle.vale_captures.specs.Inputs.{InputFile, name_of, frames_of, records_in}
 use Rattle.vale_captures.proofs.FewLines.{few-acts}
 use Rattle.nm_types.specs.OwnPorts.{OwnPort}
+use Rattle.nm_types.proofs.Lists.{each-joined, each-front, each-back}
 use Rattle.vale_replay.specs.Tasks.{Task, Depart, records_of, tasks_of_line, tasks_of_lines}
 use Rattle.vale_replay.specs.Machine.{new_machine, closing_of, closing_tasks}
 use Rattle.vale_replay.specs.Replay.{UnitShare, ScriptUnit, share_of, shares_of, act_of, acts_of, has_line, is_of_user, closing_unit, units_of, user_count}
@@ -185,18 +186,6 @@ same-less n = omega arith
 none-less : (k n : ℕ) → k ≡ 0 → k ≤ n
 none-less k n none = omega (arith, none)
 
-each-both : {X : Type 0} (P : X → Type 0) (xs ys : List X) → Each P xs → Each P ys → Each P (xs ++ ys)
-each-both P [] ys one other = other
-each-both P (x ∷ xs) ys one other = (one.0, each-both P xs ys one.1 other)
-
-each-first : {X : Type 0} (P : X → Type 0) (xs ys : List X) → Each P (xs ++ ys) → Each P xs
-each-first P [] ys all = tt
-each-first P (x ∷ xs) ys all = (all.0, each-first P xs ys all.1)
-
-each-last : {X : Type 0} (P : X → Type 0) (xs ys : List X) → Each P (xs ++ ys) → Each P ys
-each-last P [] ys all = all
-each-last P (x ∷ xs) ys all = each-last P xs ys all.1
-
 each-mapped : {X Y : Type 0} (P : Y → Type 0) (g : X → Y) (xs : List X) → ((x : X) → P (g x)) → Each P (map g xs)
 each-mapped P g [] each = tt
 each-mapped P g (x ∷ xs) each = (each x, each-mapped P g xs each)
@@ -205,7 +194,7 @@ lines-plain : (records : List ℕ → List (List ℕ)) (some : List Act) → Eac
 lines-plain records [] plain = tt
 lines-plain records (act ∷ some) plain =
     let line : LineCosts records act = lines-cost records act in
-    each-both IsPlainTask (tasks_of_line records act) (tasks_of_lines records some) (line.plain plain.0) (lines-plain records some plain.1)
+    each-joined IsPlainTask (tasks_of_line records act) (tasks_of_lines records some) (line.plain plain.0) (lines-plain records some plain.1)
 
 line-share : (records : List ℕ → List (List ℕ)) (user : ℕ) (some : List Act) → Each IsPlainAct some → IsCosted (share_of records user some)
 line-share records user some plain = record {
@@ -231,8 +220,8 @@ unit-costed records users (parts.Block ls) plain =
 units-costed : (records : List ℕ → List (List ℕ)) (users : ℕ) (units : List ReadUnit) → Each IsPlainAct (flat_map acts_of_unit units) → Each (Each IsCosted) (map (shares_of records users) units)
 units-costed records users [] plain = tt
 units-costed records users (unit ∷ units) plain = (
-  unit-costed records users unit (each-first IsPlainAct (acts_of_unit unit) (flat_map acts_of_unit units) plain),
-  units-costed records users units (each-last IsPlainAct (acts_of_unit unit) (flat_map acts_of_unit units) plain),
+  unit-costed records users unit (each-front IsPlainAct (acts_of_unit unit) (flat_map acts_of_unit units) plain),
+  units-costed records users units (each-back IsPlainAct (acts_of_unit unit) (flat_map acts_of_unit units) plain),
 )
 
 record IsFree (tasks : List Task) : Type 0 where
@@ -250,7 +239,7 @@ closing-free (p ∷ ports) =
     let none_k = rest.calls_are in
     record { frames_are = omega (arith, f, none_f); calls_are = omega (arith, k, none_k); are_plain = (tt, (tt, rest.are_plain)) }
 
-closing-costed : (user : ℕ) → Each IsCosted (closing_unit user)
+pub closing-costed : (user : ℕ) → Each IsCosted (closing_unit user)
 closing-costed user = (
   record {
     frames = λ m. none-less (frames_in (closing_tasks m)) (frames_in (closing_tasks (new_machine 0 0))) (closing-free m.own.ports).frames_are;
@@ -333,7 +322,7 @@ light-fit script program played limits says short names light entries bytes =
     let most-entries : 8388608 ≤ limits.entries = entries in
     let most-bytes : 536870912 ≤ limits.bytes = bytes in
     record {
-      costed = each-both (Each IsCosted) (map (shares_of records (user_count program)) program.units) (map closing_unit (range_with_len 1 (user_count program)))
+      costed = each-joined (Each IsCosted) (map (shares_of records (user_count program)) program.units) (map closing_unit (range_with_len 1 (user_count program)))
           (units-costed records (user_count program) program.units light.plain)
           (each-mapped (Each IsCosted) closing_unit (range_with_len 1 (user_count program)) closing-costed);
       entries = omega (arith, f, k, room, few, lines-few, few-lines, most-entries);

@@ -3,6 +3,7 @@ use Rattle.std.proofs.Common.{ℕ, ◌+◌, ◌-◌, ◌≤◌, ◌≡◌, Bool,
 use Rattle.std.specs.Prelude.{not, ◌||◌, option_and_then}
 use Rattle.std.specs.Option.{option_or}
 use Rattle.std.proofs.lemmas.List.Sums.{sum_by-cons}
+use Rattle.std.proofs.lemmas.Option.{same_Some}
 use Rattle.nm_types.specs.declared.id.SessionId.{SessionId}
 use Rattle.nm_types.specs.OwnPorts.{OwnPort, OwnState, port_with_name}
 use Rattle.vale_entry.specs.declared.entry.Ask.{Ask}
@@ -18,12 +19,12 @@ use Rattle.vale_own.proofs.SideEntries.{transmits-of, receives-of, finishes-of}
 use Rattle.vale_replay.specs.Tasks.{Task, Arrive, OpenPort, PutFrame, SendFrames, TakeFrames, ChangeOwn, SaveFrames, WatchPort, ReadCounts, ShutPort, FinishPort, Depart, EndLine, lines_left}
 use Rattle.vale_replay.specs.Machine.{Machine, after_task, answered, at_rest, call_of_task, call_of_tasks, done_call, enter_call, grant_call, has_room_at, is_peer_gone, is_reset, is_settling, next_call, next_offer, owed_lot, resting, settling_call, with_tasks}
 use Rattle.vale_replay.specs.Replay.{TakesTurn, entry_of}
-use Rattle.vale_replay.proofs.Turns.{some-same}
 use Rattle.vale_cost.specs.Completeness.{waiting, frames_of_task, calls_of_task, frames_left, calls_left, frames_taken, calls_of_ask, Spends, TurnsSpend}
 use Rattle.vale_cost.proofs.RoomViews.{AreTidy, views, tidy-of}
 use Rattle.vale_cost.proofs.RoomOwn.{own-spends}
 use Rattle.vale_cost.proofs.RoomRests.{frames_in, calls_in, ArePlain, rests, lines-left}
 use Rattle.vale_replay.proofs.PutRooms.{room-none}
+use Rattle.vale_replay.proofs.TurnSides.{outcome-of}
 use Rattle.vale_cost.proofs.RoomTurns.{by-id, IsSync, tx-sync, rx-sync, TxOf, put-of, send-of, mapped, brings}
 
 record SpendsFrom (tasks : List Task) (own : OwnState) (after : Machine) (ask : Ask) (reply : Reply) : Type 0 where
@@ -150,7 +151,7 @@ module _ (pool : ℕ) (past : List Entry) (legal : IsLegal pool past) (number : 
   TaskGoal tasks a = step s a ≡ Some made → Goal tasks a
 
   enter-turn : (rest : List Task) (session : Option SessionId) (ask : Ask) → ArePlain rest → enter_call user.number session ≡ Some ask → TaskGoal (Arrive ∷ rest) ask
-  enter-turn rest None ask plain call = subst (TaskGoal (Arrive ∷ rest)) (some-same (Enter user.number) ask call) (λ is.
+  enter-turn rest None ask plain call = subst (TaskGoal (Arrive ∷ rest)) (same_Some (Enter user.number) ask call) (λ is.
       let b = behind Arrive rest 3 (omega arith) in
       finish (record user { session = Some (record { 0 = number }); tasks = rest }) (Arrive ∷ rest) (Enter user.number) plain (omega arith) b.frames b.calls)
   enter-turn rest (Some x) ask plain call = absurd cc
@@ -211,8 +212,8 @@ module _ (pool : ℕ) (past : List Entry) (legal : IsLegal pool past) (number : 
       record { frames = goal.frames; calls = goal.calls; plain = goal.plain }
     where
       by-offer : (lot : Option Lot) (offer : Option Offer) → option_or (option_or (option_map done_call lot) (option_map grant_call offer)) (call_of_tasks user user.tasks) ≡ Some ask → Goal user.tasks ask
-      by-offer (Some lot) offer e = subst (Goal user.tasks) (some-same (done_call lot) ask e) (done-turn lot plain)
-      by-offer None (Some offer) e = subst (Goal user.tasks) (some-same (grant_call offer) ask e) (grant-turn offer plain)
+      by-offer (Some lot) offer e = subst (Goal user.tasks) (same_Some (done_call lot) ask e) (done-turn lot plain)
+      by-offer None (Some offer) e = subst (Goal user.tasks) (same_Some (grant_call offer) ask e) (grant-turn offer plain)
       by-offer None None e = head-turn user.tasks ask plain e is
 
       by : (session : Option SessionId) → option_or (option_and_then (settling_call s.world) session) (call_of_tasks user user.tasks) ≡ Some ask → Goal user.tasks ask
@@ -220,11 +221,6 @@ module _ (pool : ℕ) (past : List Entry) (legal : IsLegal pool past) (number : 
       by (Some x) e = by-offer (owed_lot s.world x.0) (next_offer s.world x.0) e
 
 -- ---- turns
-
-outcome-of : (ask : Ask) (entry : Entry) (made : Option Outcome) → option_map (entry_of ask) made ≡ Some entry
-    → (out : Outcome) × (made ≡ Some out) × (entry_of ask out ≡ entry)
-outcome-of ask entry None e = absurd cc
-outcome-of ask entry (Some out) e = (out, refl, some-same (entry_of ask out) entry e)
 
 -- what holds of the entry of each outcome of a turn's ask holds of the turn's entry
 pub turn-outcome : {pool : ℕ} {h : List Entry} {user : Machine} {n : ℕ} {after : Machine} (turn : TakesTurn pool h user n after) (P : Entry → Type 0)

@@ -1,5 +1,6 @@
 -- A turn of a user spends what its entry costs.
 use Rattle.std.proofs.Common.{ℕ, ◌≡◌, Bool, true, false, cond, List, Option, Some, None, option_map, refl, subst}
+use Rattle.std.proofs.lemmas.Option.{same_Some}
 use Rattle.std.specs.Prelude.{bytes_eq, option_and_then}
 use Rattle.nm_types.specs.declared.id.PortId.{PortId}
 use Rattle.nm_types.specs.declared.id.Side.{Side}
@@ -23,7 +24,6 @@ use Rattle.vale_own.proofs.Rooms.{step-recorded}
 use Rattle.vale_own.proofs.SideArrivals.{lent-count}
 use Rattle.vale_own.proofs.SideSound.{each-found}
 use Rattle.vale_replay.specs.Machine.{is_settling, put_call, room_call, send_call}
-use Rattle.vale_replay.proofs.Turns.{some-same}
 use Rattle.vale_cost.specs.Completeness.{calls_of_ask}
 use Rattle.vale_cost.proofs.RoomViews.{AreTidy, views, ids-seen}
 use Rattle.vale_cost.proofs.RoomOwn.{BringsAsMany}
@@ -78,14 +78,14 @@ put-of own name ask e = tx-of own name ask (room_call own) (λ p r. room p r (ha
   where
     room : (p : OwnPort) (r : OwnRing) (b : Bool) → cond b None (Some (tx_call own p r)) ≡ Some ask → tx_call own p r ≡ ask
     room p r true e' = absurd cc
-    room p r false e' = some-same (tx_call own p r) ask e'
+    room p r false e' = same_Some (tx_call own p r) ask e'
 
 pub send-of : (own : OwnState) (name : List ℕ) (ask : Ask) → option_and_then (send_call own) (port_with_name own name) ≡ Some ask → TxOf own name ask
 send-of own name ask e = by (port_with_name own name) refl e
   where
     by-ring : (p : OwnPort) (tx : Option OwnRing) → port_with_name own name ≡ Some p → p.tx ≡ tx → option_map (tx_call own p) tx ≡ Some ask → TxOf own name ask
     by-ring p None named has e' = absurd cc
-    by-ring p (Some r) named has e' = record { port = p; named = named; ring = r; has = has; is = some-same (tx_call own p r) ask e' }
+    by-ring p (Some r) named has e' = record { port = p; named = named; ring = r; has = has; is = same_Some (tx_call own p r) ask e' }
 
     by : (found : Option OwnPort) → port_with_name own name ≡ found → option_and_then (send_call own) found ≡ Some ask → TxOf own name ask
     by None named e' = absurd cc
@@ -93,7 +93,7 @@ send-of own name ask e = by (port_with_name own name) refl e
 
 pub mapped : {X : Type 0} (f : X → Ask) (o : Option X) (ask : Ask) (P : Ask → Type 0) → option_map f o ≡ Some ask → ((x : X) → o ≡ Some x → P (f x)) → P ask
 mapped f None ask P e each = absurd cc
-mapped f (Some x) ask P e each = subst P (some-same (f x) ask e) (each x refl)
+mapped f (Some x) ask P e each = subst P (same_Some (f x) ask e) (each x refl)
 
 -- ---- as many buffers come as frames were taken
 

@@ -9,6 +9,7 @@ use Rattle.vale_entry.specs.Arrivals.{arrivals_of}
 use Rattle.vale_entry.specs.Laws.{Rise}
 use Rattle.vale_entry.specs.OwnCalls.{own_after}
 use Rattle.vale_entry.specs.Legal.{Outcome, IsLegal, standing_of, step, kept_ask}
+use Rattle.vale_entry.proofs.Rising.{rise-bounds}
 use Rattle.vale_own.proofs.OwnKept.{legal-split}
 use Rattle.vale_replay.specs.Machine.{Machine, answered, is_settling, resting, with_tasks}
 use Rattle.vale_replay.specs.Replay.{TakesTurn, TakesTurns, entry_of}
@@ -43,15 +44,11 @@ pub record Chain (h : List Entry) (user : Machine) (ns : List ℕ) (after : Mach
   pub spends : SpendsAll h user after ns
   pub below : AreBelow high (views after.own)
 
-rise-up : (low : ℕ) (ns : List ℕ) (high : ℕ) → Rise low ns high → low ≤ high
-rise-up low [] high rise = rise
-rise-up low (n ∷ ns) high rise = let here = rise.0 in let rest = rise-up n ns high rise.1 in omega (arith, here, rest)
-
 pub chain : (pool : ℕ) (h : List Entry) (low high : ℕ) (user : Machine) (ns : List ℕ) (after : Machine) → ((n : ℕ) → IsLegal pool (take n h)) → Rise low ns high
     → AreBelow low (views user.own) → ArePlain user.tasks → TakesTurns pool h user ns after → Chain h user ns after high
 chain pool h low high user [] after legal rise below plain turns =
     subst (λ (m : Machine). Chain h user [] m high) (sym turns)
-    (record { spends = record { frames = omega arith; calls = omega arith; plain = plain }; below = below-later low high (views user.own) (rise-up low [] high rise) below })
+    (record { spends = record { frames = omega arith; calls = omega arith; plain = plain }; below = below-later low high (views user.own) (rise-bounds low [] high rise) below })
 chain pool h low high user (n ∷ ns) after legal rise below plain turns =
     let next = turns.0 in
     let turn = turns.1.0 in

@@ -1,6 +1,7 @@
 -- The entry of a task's call is the session's.
 use Rattle.std.proofs.Common.{ℕ, ◌≡◌, ◌==◌, ◌⊎◌, inl, inr, Bool, true, false, cond, List, map, find, slice_get, Option, Some, None, option_map, refl, sym, ◌∙◌, ap, subst}
 use Rattle.std.proofs.lemmas.Bool.{eq-eqb}
+use Rattle.std.proofs.lemmas.Option.{same_Some}
 use Rattle.nm_types.specs.OwnPorts.{OwnPort, OwnState, port_with_id, buffers_in}
 use Rattle.nm_types.specs.OwnSyncs.{chain_in}
 use Rattle.vale_entry.specs.declared.entry.Ask.{Ask}
@@ -40,9 +41,6 @@ has-made None session reply e = absurd cc
 has-made (Some made) session reply e =
     let pair : session_and_reply made ≡ (session, reply) = cc e in
     record { made = made; is = refl; session_is = ap (λ (p : ℕ × Reply). p.0) pair; reply_is = ap (λ (p : ℕ × Reply). p.1) pair }
-
-some-number : (x y : ℕ) → Some x ≡ Some y → x ≡ y
-some-number x y e = cc
 
 -- one port has an id
 find-one : (ports : List Port) (high id i : ℕ) (x : Port) → Rise 0 (map id_of_port ports) high → slice_get ports i ≡ Some x → x.id ≡ id → find (λ (y : Port). y.id == id) ports ≡ Some x
@@ -93,7 +91,7 @@ module _ (pool : ℕ) (past : List Entry) (session : ℕ) (side : OwnState) (k :
       by_of (inr (inl at)) =
           let none = none-shut at.port.id.0 (open_port now.world.ports at.port.id.0) (shutting_port now.world.ports at.port.id.0) refl refl (owner at.port at.found) in
           absurd (finish-none (buffers_in at.port) (fits_chain (chain_in side at.port)) (shutting_port now.world.ports at.port.id.0) made none (ap (step now) at.is ∙ stepped))
-      by_of (inr (inr of)) = some-number made.session session (sym asker ∙ of.asker now)
+      by_of (inr (inr of)) = same_Some made.session session (sym asker ∙ of.asker now)
 
 -- so it is of the session that makes it
 pub whose-task : {s : SessionState} {w : Knowing} {ask : Ask} → IsThere None s → (m : Makes s.fixed s.knows w ask) → TaskCall s.own (record { 0 = s.id }) ask → m.session ≡ s.id

@@ -4,6 +4,7 @@ use Rattle.std.specs.Prelude.{bytes_eq, nat_eq}
 use Rattle.std.specs.List.{AllByRecursion, IsDistinct}
 use Rattle.std.proofs.lemmas.Bool.{eqb-true, eq-eqb, ne_eqb}
 use Rattle.std.proofs.lemmas.Slice.Eq.{bytes_eq-Decides}
+use Rattle.std.proofs.lemmas.Option.{same_Some}
 use mathlib.Core.List.{IsPrefix}
 use Rattle.nm_types.specs.OwnPorts.{OwnPort, OwnState, port_with_id, port_with_name, buffers_in}
 use Rattle.nm_types.specs.OwnSyncs.{own_after_finish}
@@ -30,7 +31,6 @@ use Rattle.nm_user.specs.Sessions.{SessionState, IsThere}
 use Rattle.vale_replay.specs.Tasks.{Task, Depart}
 use Rattle.vale_replay.specs.Machine.{Machine, closing_of}
 use Rattle.vale_replay.proofs.Legal.{take-one_more}
-use Rattle.vale_replay.proofs.Turns.{some-same}
 use Rattle.vale_player.specs.Users.{HasCome, HasWorked}
 use Rattle.vale_player.specs.Laws.{ClosingIsPlayed}
 use Rattle.vale_player.proofs.Detaching.{detach-turns, neither, shut-settled}
@@ -205,7 +205,7 @@ closes (p ∷ ports) s t began first now here legal all list come has =
     let rest : List Task = flat_map closing_of ports ++ Depart ∷ [] in
     let legal-mid : IsLegal s.fixed.pool mid.knows.seen = (legal-split s.fixed.pool mid.knows.seen begins.0 (subst (IsLegal s.fixed.pool) (sym begins.1) legal)).0 in
     let there = detached-there s mid p.id.0 told here legal-mid d in
-    let port : d.at.port ≡ p = some-same d.at.port p (sym d.at.found ∙ head-found s.own p ports list) in
+    let port : d.at.port ≡ p = same_Some d.at.port p (sym d.at.found ∙ head-found s.own p ports list) in
     let named : port_with_name s.own p.name ≡ Some d.at.port = head-named s.own p ports list ∙ ap (λ (q : OwnPort). Some q) (sym port) in
     let come-mid : HasCome began first mid (record now { own = mid.own; tasks = rest }) = detach-turns s mid began first now p.name rest p.id.0 told here there come has d named in
     let left : mid.own.ports ≡ ports = ap (λ (o : OwnState). o.ports) d.own ∙ ports-left s.own p ports (buffers_in d.at.port) list here.side.sound.apart in

@@ -7,10 +7,10 @@ use Rattle.nm_turn.specs.Numbered.{numbers}
 use Rattle.vale_entry.specs.declared.entry.Entry.{Entry}
 use Rattle.vale_entry.specs.Laws.{Rise}
 use Rattle.vale_entry.specs.Legal.{standing_of}
+use Rattle.vale_entry.proofs.Rising.{rise-bounds}
 use Rattle.vale_replay.specs.Machine.{next_call}
 use Rattle.vale_replay.specs.Joined.{IsWithin}
 use Rattle.vale_replay.specs.Replay.{last_of}
-use Rattle.vale_replay.proofs.Numbers.{rise-low}
 use Rattle.vale_player.specs.Laws.{WorkIsKept, StopIsKept, StoppedCallIsKept, WorkIsWithin}
 use Rattle.vale_player.proofs.Working.{last-within, longer-replays, replays-of}
 
@@ -46,7 +46,7 @@ rise-inside : (first low : ℕ) (ns : List ℕ) (last : ℕ) → first ≤ low �
 rise-inside first low [] last up r = tt
 rise-inside first low (n ∷ ns) last up r =
     let above = r.0 in
-    let high : n ≤ last = rise-low n ns last r.1 in
+    let high : n ≤ last = rise-bounds n ns last r.1 in
     ((omega (arith, up, above), high), rise-inside first n ns last (omega (arith, up, above)) r.1)
 
 pub work-within : WorkIsWithin

@@ -1,5 +1,6 @@
 -- What the syncs of a user make of its tasks.
 use Rattle.std.proofs.Common.{ℕ, ◌≡◌, append_assoc, Bool, true, false, cond, List, [], ◌∷◌, ◌++◌, Option, Some, None, option_map, Result, Ok, Err, IfOk, IfErr, IsSome, refl, sym, ◌∙◌, ap, subst}
+use Rattle.std.proofs.lemmas.Option.{same_Some}
 use Rattle.std.specs.Prelude.{◌||◌, not, option_and_then}
 use Rattle.std.specs.Option.{option_map_or}
 use Rattle.nm_types.specs.declared.fault.StepFault.{StepFault}
@@ -21,7 +22,6 @@ use Rattle.nm_user.specs.Receives.{HasPort}
 use Rattle.vale_replay.specs.Edits.{change_found}
 use Rattle.vale_replay.specs.Tasks.{Task, PutFrame, SendFrames, TakeFrames, EndLine, lines_left}
 use Rattle.vale_replay.specs.Machine.{Machine, Save, has_room_at, is_reset, is_peer_gone, put_call, send_call, room_call}
-use Rattle.vale_replay.proofs.Turns.{some-same}
 use Rattle.vale_player.specs.declared.frames.SyncEnd.{SyncEnd}
 use Rattle.vale_player.specs.declared.frames.SyncEnd.TheVariants as ends
 use Rattle.vale_player.specs.Users.{HasCome}
@@ -32,8 +32,8 @@ use Rattle.vale_player.proofs.Changes.{id-of, changed-at}
 use Rattle.vale_player.proofs.Doing.{HasNoEnd, ends-line, stops-at}
 use Rattle.vale_player.proofs.LineLaws.{calls-done, receives-done, sends-done, failed-sends, puts-sync, puts-call}
 use Rattle.vale_player.proofs.Stays.{task-done}
-use Rattle.vale_player.proofs.TaskCalls.{by-id}
 use Rattle.vale_replay.proofs.PutRooms.{room-none}
+use Rattle.vale_replay.proofs.TurnSides.{by-id}
 
 or-first : (a b : Bool) → (a || b) ≡ false → a ≡ false
 or-first true b e = absurd cc
@@ -64,7 +64,7 @@ port-at own name port sound e = by (port_with_name own name) refl e
   where
     by : (found : Option OwnPort) → port_with_name own name ≡ found → option_map id-of found ≡ Some port → PortAt own name port
     by None named is = absurd cc
-    by (Some p) named is = port-is own name port p sound named (some-same p.id port is)
+    by (Some p) named is = port-is own name port p sound named (same_Some p.id port is)
 
 none-of : (found : Option OwnPort) → option_map id-of found ≡ None → found ≡ None
 none-of None e = refl
@@ -114,7 +114,7 @@ sender-found own name port sound e = by (port_with_name own name) refl e
   where
     with-ring : (p : OwnPort) (tx : Option OwnRing) → port_with_name own name ≡ Some p → p.tx ≡ tx → option_map (id_beside p) tx ≡ Some port → Sender own name port
     with-ring p None named has is = absurd cc
-    with-ring p (Some r) named has is = record { of = port-is own name port p sound named (some-same p.id port is); ring = r; has = has }
+    with-ring p (Some r) named has is = record { of = port-is own name port p sound named (same_Some p.id port is); ring = r; has = has }
 
     by : (found : Option OwnPort) → port_with_name own name ≡ found → option_and_then id_with_ring found ≡ Some port → Sender own name port
     by None named is = absurd cc

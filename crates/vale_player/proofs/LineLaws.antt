@@ -20,8 +20,8 @@ use Rattle.vale_player.proofs.Detaching.{detach-turns}
 use Rattle.vale_replay.proofs.Parts.{call-same}
 use Rattle.vale_player.proofs.Stays.{task-done}
 use Rattle.vale_player.proofs.Syncs.{sync-turns}
-use Rattle.vale_player.proofs.TaskCalls.{by-id}
 use Rattle.vale_replay.proofs.PutRooms.{no-room-call}
+use Rattle.vale_replay.proofs.TurnSides.{by-id}
 use Rattle.vale_player.proofs.Turns.{call-turn}
 
 -- ---- without a call

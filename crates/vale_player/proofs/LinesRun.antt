@@ -7,7 +7,7 @@ use Rattle.vale_replay.specs.Replay.{act_of, acts_of, has_line, is_of_user}
 use Rattle.vale_player.specs.Players.{PlayerState, Does, IsStill, RunsLines, Stops, machine_of}
 use Rattle.vale_player.specs.Users.{HasCome}
 
-none-of : (lines : List Line) (number : ℕ) → has_line lines number ≡ false → acts_of lines number ≡ []
+pub none-of : (lines : List Line) (number : ℕ) → has_line lines number ≡ false → acts_of lines number ≡ []
 none-of [] number none = refl
 none-of (line ∷ lines) number none = by (line.user == number) refl (none-of lines number)
   where

@@ -3,6 +3,7 @@ use Rattle.std.proofs.Common.{ℕ, ◌≡◌, true, false, List, [], ◌∷◌, 
 use Rattle.std.specs.Prelude.{OnOk, bytes_eq}
 use Rattle.std.specs.Option.{option_map_or}
 use Rattle.std.proofs.lemmas.Slice.Eq.{bytes_eq-Decides}
+use Rattle.std.proofs.lemmas.Option.{same_Some}
 use Rattle.nm_types.specs.declared.fault.OpenFault.{OpenFault}
 use Rattle.nm_types.specs.declared.fault.OpenFault.TheVariants as opens
 use Rattle.nm_types.specs.declared.fault.WatchFault.{WatchFault}
@@ -25,7 +26,7 @@ use Rattle.nm_user.specs.Calls.{Made, MadeNone}
 use Rattle.nm_user.specs.Ports.{IsMonitorOn, OpensNot, WatchesNot}
 use Rattle.nm_user.proofs.Opened.{opening}
 use Rattle.vale_replay.specs.Tasks.{Task, OpenPort, WatchPort, ReadCounts}
-use Rattle.vale_replay.proofs.Turns.{some-same}
+use Rattle.vale_replay.proofs.TurnSides.{by-id}
 use Rattle.vale_player.specs.Lines.{TaskCalls, port_of_task}
 use Rattle.vale_player.specs.Players.{PlayerState, Does, HasCalled}
 use Rattle.vale_player.specs.Stopping.{open_stop_of, watch_stop_of}
@@ -33,7 +34,6 @@ use Rattle.vale_player.proofs.Changes.{id-of}
 use Rattle.vale_player.proofs.LineLaws.{tasks-pass}
 use Rattle.vale_player.proofs.Doing.{still-self}
 use Rattle.vale_player.proofs.SingleCalls.{IsSmall, Follows, stands-by, called-by}
-use Rattle.vale_player.proofs.TaskCalls.{by-id}
 
 -- a port that is found by its name
 pub record FoundPort (own : OwnState) (name : List ℕ) (port : PortId) : Type 0 where
@@ -49,7 +49,7 @@ found-port own name port sound e = by (port_with_name own name) refl e
     by : (found : Option OwnPort) → port_with_name own name ≡ found → option_map id-of found ≡ Some port → FoundPort own name port
     by None named is = absurd cc
     by (Some p) named is =
-        let id : p.id ≡ port = some-same p.id port is in
+        let id : p.id ≡ port = same_Some p.id port is in
         let place = place-of (λ (q : OwnPort). bytes_eq name q.name) own.ports p named in
         record {
           at = p;
@@ -67,7 +67,7 @@ is-monitor own name port f monitor = ap (λ (o : Option OwnPort). option_map_or 
 
 mapped : (f : PortId → Ask) (found : Option OwnPort) (port : PortId) → option_map id-of found ≡ Some port → option_map (λ (p : OwnPort). f p.id) found ≡ Some (f port)
 mapped f None port e = absurd cc
-mapped f (Some p) port e = ap (λ (id : PortId). Some (f id)) (some-same p.id port e)
+mapped f (Some p) port e = ap (λ (id : PortId). Some (f id)) (same_Some p.id port e)
 
 none-of : (found : Option OwnPort) → option_map id-of found ≡ None → found ≡ None
 none-of None e = refl

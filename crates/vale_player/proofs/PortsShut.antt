@@ -1,12 +1,12 @@
 -- A port that a user closes, and one that it has not.
 use Rattle.std.proofs.Common.{ℕ, ◌≡◌, List, [], ◌∷◌, Some, None, option_map, refl, sym, ◌∙◌, ap, subst}
+use Rattle.std.proofs.lemmas.Option.{same_Some}
 use Rattle.nm_types.specs.declared.id.PortId.{PortId}
 use Rattle.nm_types.specs.OwnPorts.{OwnPort, port_with_name}
 use Rattle.nm_user.specs.declared.leaving.Detached.{Detached}
 use Rattle.nm_user.specs.Leaving.{IsDetached}
 use Rattle.nm_user.specs.Sessions.{IsThere}
 use Rattle.vale_replay.specs.Tasks.{ShutPort, FinishPort}
-use Rattle.vale_replay.proofs.Turns.{some-same}
 use Rattle.vale_player.specs.Users.{HasCome}
 use Rattle.vale_player.specs.Players.{PlayerState, machine_of, Does}
 use Rattle.vale_player.proofs.Changes.{id-of}
@@ -17,7 +17,7 @@ module _ (p q : PlayerState) (same : q ≡ record p { session = q.session }) (na
   pub closes-does : IsThere None p.session → IsThere None q.session → option_map id-of (port_with_name p.session.own name) ≡ Some port → Does p q (ShutPort name ∷ FinishPort name ∷ [])
   closes-does here there found rest began first come =
       let f = found-port p.session.own name port here.side.sound found in
-      let at : d.at.port ≡ f.at = some-same d.at.port f.at (sym d.at.found ∙ f.found) in
+      let at : d.at.port ≡ f.at = same_Some d.at.port f.at (sym d.at.found ∙ f.found) in
       let named : port_with_name p.session.own name ≡ Some d.at.port = f.named ∙ ap (λ (x : OwnPort). Some x) (sym at) in
       let done = detaches-done p.number p.saves p.session q.session name port.0 told here there d named rest began first come in
       subst (λ (x : PlayerState). HasCome began first x.session (machine_of x rest)) (sym same) done

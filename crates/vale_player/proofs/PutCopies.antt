@@ -12,6 +12,7 @@ use Rattle.nm_user.proofs.Written.{there-edited}
 use Rattle.nm_user.proofs.CopiesPut.{copies-keep}
 use Rattle.vale_replay.specs.Edits.{change_found}
 use Rattle.vale_replay.specs.Tasks.{Task, PutFrame, SendFrames, fits_a_buffer, played_before_sync, played}
+use Rattle.vale_replay.proofs.TurnSides.{by-id}
 use Rattle.vale_player.specs.Players.{PlayerState, Does, DoesLine, machine_of}
 use Rattle.vale_player.specs.Users.{HasCome}
 use Rattle.vale_player.specs.Syncing.{id_with_ring, sender_named, with_put, Leads}
@@ -19,7 +20,6 @@ use Rattle.vale_player.proofs.Changes.{id-of}
 use Rattle.vale_player.proofs.Doing.{does-line}
 use Rattle.vale_player.proofs.Leading.{Sender, sender-found, room-by, room-needs, ringless-needs, puts, put-acted, passes-send, leads-self, leads-does}
 use Rattle.vale_player.proofs.SenderNames.{frame-names, copies-names}
-use Rattle.vale_player.proofs.TaskCalls.{by-id}
 
 pub named-id : (own : OwnState) (name : List ℕ) (port : PortId) → Sender own name port → option_map id-of (port_with_name own name) ≡ Some port
 named-id own name port f = ap (option_map id-of) f.of.named ∙ ap (λ (id : PortId). Some id) f.of.id_is

@@ -1,5 +1,6 @@
 -- What the users of a script that was accepted can do.
 use Rattle.std.proofs.Common.{ℕ, ◌≡◌, ◌||◌, Bool, true, false, not, cond, List, [], ◌∷◌, ◌++◌, Option, Some, None, is_some, refl}
+use Rattle.std.proofs.lemmas.Bool.{or_parts}
 use Rattle.std.specs.List.{AllByRecursion}
 use Rattle.nm_types.specs.declared.name.Kind.{Kind}
 use Rattle.nm_types.specs.declared.name.Kind.TheVariants.{Vale, Master, Slave, Monitor}
@@ -21,10 +22,6 @@ passed : {X : Type 0} (b : Bool) (x : X) (o : Option X) → cond b (Some x) o �
 passed true x o e = absurd cc
 passed false x o e = (refl, e)
 
-neither : (a b : Bool) → (a || b) ≡ false → (a ≡ false) × (b ≡ false)
-neither true b e = absurd cc
-neither false b e = (refl, e)
-
 is-true : (b : Bool) → not b ≡ false → b ≡ true
 is-true true e = refl
 is-true false e = absurd cc
@@ -33,7 +30,7 @@ not-wrong : (draft : Draft) (user : List ℕ) (act : Act) → act_cause draft us
 not-wrong draft user act none =
     let there = passed (not (is_some (draft.numbers user))) _ _ none in
     let has = passed (lacks_ports draft user act) _ _ there.1 in
-    (neither (lacks_port draft user (first_use act) || lacks_port draft user (second_use act)) (watches_wrongly act) has.0).1
+    (or_parts (lacks_port draft user (first_use act) || lacks_port draft user (second_use act)) (watches_wrongly act) has.0).1
 
 watchable : (name : List ℕ) → is_name name ≡ true → is_monitor_name name ≡ false → (is_switch_port_name name || is_pipe_name name) ≡ true
 unfolding is_name is_monitor_name is_switch_port_name is_pipe_name
@@ -49,7 +46,7 @@ watchable name named other = by (kind_of name) named other
 watch-sound : (draft : Draft) (user : List ℕ) (act : Act) → IsSoundAct act → cause_of draft (act_says user act) ≡ None → IsSoundWatch act
 watch-sound draft user (acts.Watch monitor target sides) sound none =
     let wrong = not-wrong draft user (acts.Watch monitor target sides) none in
-    let parts = neither (not (is_monitor_name monitor)) (is_monitor_name target) wrong in
+    let parts = or_parts (not (is_monitor_name monitor)) (is_monitor_name target) wrong in
     (is-true (is_monitor_name monitor) parts.0, watchable target sound.1 parts.1)
 watch-sound draft user _ sound none = tt
 

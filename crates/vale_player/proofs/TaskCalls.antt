@@ -1,6 +1,7 @@
 -- What the call of a task is of: an open port of the side, the port that is shut, or the session.
 use Rattle.std.proofs.Common.{ℕ, ◌≡◌, ◌⊎◌, inl, inr, Bool, true, false, cond, List, [], ◌∷◌, Option, Some, None, option_map, refl, sym, ◌∙◌, ap, subst}
-use Rattle.std.specs.Prelude.{option_and_then, bytes_eq}
+use Rattle.std.proofs.lemmas.Option.{same_Some}
+use Rattle.std.specs.Prelude.{option_and_then}
 use Rattle.nm_types.specs.declared.fault.SyncFault.{SyncFault}
 use Rattle.nm_types.specs.declared.id.PortId.{PortId}
 use Rattle.nm_types.specs.declared.id.SessionId.{SessionId}
@@ -15,13 +16,11 @@ use Rattle.vale_entry.specs.declared.entry.Ask.TheVariants.{Open, Send, Sync, Sh
 use Rattle.vale_entry.specs.World.{open_port}
 use Rattle.vale_entry.specs.Legal.{Standing, kept_ask}
 use Rattle.vale_entry.specs.OwnCalls.{or_reset, offered_items, back_in, tx_call, rx_call, finish_call}
-use Rattle.vale_entry.proofs.Each.{each-find}
 use Rattle.vale_own.specs.Asker.{asker_of, owner_of_port, is_enter}
 use Rattle.vale_own.specs.Side.{IsSound}
-use Rattle.vale_own.proofs.SideSound.{each-found}
 use Rattle.vale_replay.specs.Tasks.{Task, Arrive, OpenPort, PutFrame, SendFrames, TakeFrames, ChangeOwn, SaveFrames, WatchPort, ReadCounts, ShutPort, FinishPort, Depart, EndLine}
 use Rattle.vale_replay.specs.Machine.{Machine, room_call, put_call, send_call, call_of_task, call_of_tasks, is_settling}
-use Rattle.vale_replay.proofs.Turns.{some-same}
+use Rattle.vale_replay.proofs.TurnSides.{by-id}
 
 -- whose such an ask is stands at the open port
 pub record AtPort (side : OwnState) (ask : Ask) : Type 0 where
@@ -46,11 +45,6 @@ pub record IsPlain (ask : Ask) : Type 0 where
 pub record TaskCall (side : OwnState) (session : SessionId) (ask : Ask) : Type 0 where
   pub of : AtPort side ask ⊎ (AtShut side ask ⊎ OfSession session ask)
   pub plain : IsPlain ask
-
-pub by-id : (own : OwnState) (name : List ℕ) (p : OwnPort) → IsSound own
-    → port_with_name own name ≡ Some p → port_with_id own p.id.0 ≡ Some p
-by-id own name p sound named =
-    each-find (λ (q : OwnPort). port_with_id own q.id.0 ≡ Some q) (λ (q : OwnPort). bytes_eq name q.name) own.ports p (each-found own.ports sound.apart) named
 
 -- a call at a port
 record CallAt (id : PortId) (ask : Ask) : Type 0 where
@@ -81,17 +75,17 @@ module _ (side : OwnState) (session : SessionId) (name : List ℕ) (sound : IsSo
 
   mapped-at : (f : OwnPort → Ask) (found : Option OwnPort) (ask : Ask) → port_with_name side name ≡ found → option_map f found ≡ Some ask → ((p : OwnPort) → CallAt p.id (f p)) → TaskCall side session ask
   mapped-at f None ask named e at = absurd cc
-  mapped-at f (Some p) ask named e at = at-port p (f p) ask named (at p) (some-same (f p) ask e)
+  mapped-at f (Some p) ask named e at = at-port p (f p) ask named (at p) (same_Some (f p) ask e)
 
   finish-at : (found : Option OwnPort) (ask : Ask) → port_with_name side name ≡ found → option_map (finish_call side) found ≡ Some ask → TaskCall side session ask
   finish-at None ask named e = absurd cc
   finish-at (Some p) ask named e =
-      let is = some-same (finish_call side p) ask e in
+      let is = same_Some (finish_call side p) ask e in
       subst (TaskCall side session) is (record { of = inr (inl (record { port = p; found = by-id side name p sound named; is = refl })); plain = record { settles = refl; enters = refl } })
 
   room-at : (p : OwnPort) (r : OwnRing) (b : Bool) (ask : Ask) → port_with_name side name ≡ Some p → cond b None (Some (tx_call side p r)) ≡ Some ask → TaskCall side session ask
   room-at p r true ask named e = absurd cc
-  room-at p r false ask named e = at-port p (tx_call side p r) ask named (tx-at side p r) (some-same (tx_call side p r) ask e)
+  room-at p r false ask named e = at-port p (tx_call side p r) ask named (tx-at side p r) (same_Some (tx_call side p r) ask e)
 
   put-ring : (p : OwnPort) (tx : Option OwnRing) (ask : Ask) → port_with_name side name ≡ Some p → option_and_then (room_call side p) tx ≡ Some ask → TaskCall side session ask
   put-ring p None ask named e = absurd cc
@@ -103,7 +97,7 @@ module _ (side : OwnState) (session : SessionId) (name : List ℕ) (sound : IsSo
 
   send-ring : (p : OwnPort) (tx : Option OwnRing) (ask : Ask) → port_with_name side name ≡ Some p → option_map (tx_call side p) tx ≡ Some ask → TaskCall side session ask
   send-ring p None ask named e = absurd cc
-  send-ring p (Some r) ask named e = at-port p (tx_call side p r) ask named (tx-at side p r) (some-same (tx_call side p r) ask e)
+  send-ring p (Some r) ask named e = at-port p (tx_call side p r) ask named (tx-at side p r) (same_Some (tx_call side p r) ask e)
 
   send-at : (found : Option OwnPort) (ask : Ask) → port_with_name side name ≡ found → option_and_then (send_call side) found ≡ Some ask → TaskCall side session ask
   send-at None ask named e = absurd cc
@@ -112,7 +106,7 @@ module _ (side : OwnState) (session : SessionId) (name : List ℕ) (sound : IsSo
 -- a call that names the session
 session-of : (side : OwnState) (f : SessionId → Ask) (has : Option SessionId) (session : SessionId) (ask : Ask) → has ≡ Some session → option_map f has ≡ Some ask → TaskCall side session (f session) → TaskCall side session ask
 session-of side f has session ask is e one =
-    subst (TaskCall side session) (some-same (f session) ask (ap (option_map f) (sym is) ∙ e)) one
+    subst (TaskCall side session) (same_Some (f session) ask (ap (option_map f) (sym is) ∙ e)) one
 
 pub task-call : (user : Machine) (session : SessionId) (tasks : List Task) (ask : Ask) → IsSound user.own → user.session ≡ Some session
     → call_of_tasks user tasks ≡ Some ask → TaskCall user.own session ask

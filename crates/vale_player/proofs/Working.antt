@@ -39,7 +39,7 @@ picked-rise low n top (e ∷ es) (x ∷ xs) up count p =
         subst (λ (k : ℕ). (low < k) × Rise k (numbers xs) top) number (up, first here.1)
     by (inr later) first rest = rest later
 
-numbers-then : (xs ys : List (ℕ × Entry)) → numbers (xs ++ ys) ≡ numbers xs ++ numbers ys
+pub numbers-then : (xs ys : List (ℕ × Entry)) → numbers (xs ++ ys) ≡ numbers xs ++ numbers ys
 numbers-then [] ys = refl
 numbers-then (x ∷ xs) ys = ap (λ (ns : List ℕ). x.0 ∷ ns) (numbers-then xs ys)
 

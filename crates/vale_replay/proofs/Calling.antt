@@ -6,6 +6,7 @@ use Rattle.std.specs.List.{AllByRecursion}
 use Rattle.std.proofs.lemmas.Bool.{and_parts, eq-eqb}
 use Rattle.std.proofs.lemmas.List.{take_all}
 use Rattle.std.proofs.lemmas.Slice.Eq.{bytes_eq-Decides}
+use Rattle.std.proofs.lemmas.Option.{same_Some}
 use Rattle.nm_types.specs.Buffers.{IsPoolSize}
 use Rattle.nm_types.specs.Names.{is_monitor_name}
 use Rattle.nm_types.specs.OwnPorts.{OwnPort, OwnState, empty_own, port_with_name}
@@ -31,7 +32,6 @@ use Rattle.vale_replay.specs.Tasks.{Task, Arrive, OpenPort, PutFrame, SendFrames
 use Rattle.vale_replay.specs.Machine.{Machine, call_of_task, call_of_tasks, settling_call, owed_lot, next_offer, done_call, grant_call, next_call, put_call, send_call}
 use Rattle.vale_replay.specs.Replay.{Cast, UnitShare, EachShare, Reaches, starting, units_of, with_afters}
 use Rattle.vale_replay.specs.MayCall.{HasFieldsIf, PortFits, FirstFits, LeavesWithout, MayCall, CallsMayBeMade}
-use Rattle.vale_replay.proofs.Turns.{some-same}
 use Rattle.vale_replay.proofs.Members.{HasShare, has-share, have-same}
 use Rattle.vale_replay.proofs.Joins.{units-apart, apart-at}
 use Rattle.vale_replay.proofs.TaskSides.{SideOf, ArePaired, AreInOrder, KeepsSide}
@@ -49,14 +49,14 @@ module _ (pool : ℕ) (past : List Entry) (legal : IsLegal pool past) (x : Sessi
       → is_lease lot.number lot ≡ true → is_some (find (is_lease lot.number) (map lot_of_lease leases)) ≡ true
   of-lot [] lot e is = absurd cc
   of-lot (lease ∷ leases) lot e is =
-      let here : is_lease lot.number lease.0 ≡ true = ap (is_lease lot.number) (some-same lease.0 lot e) ∙ is in
+      let here : is_lease lot.number lease.0 ≡ true = ap (is_lease lot.number) (same_Some lease.0 lot e) ∙ is in
       ap (λ (b : Bool). is_some (cond b (Some lease.0) (find (is_lease lot.number) (map lot_of_lease leases)))) here
 
   of-offer : (offers : List Offer) (offer : Offer) → slice_get offers 0 ≡ Some offer
       → is_met (is_offer_next offer.to) (find (is_offer_of offer.origin) offers) ≡ true
   of-offer [] offer e = absurd cc
   of-offer (first ∷ offers) offer e =
-      let same = some-same first offer e in
+      let same = same_Some first offer e in
       let here : is_offer_of offer.origin first ≡ true = ap (is_offer_of offer.origin) same ∙ eq-eqb offer.origin offer.origin refl in
       ap (λ (b : Bool). is_met (is_offer_next offer.to) (cond b (Some first) (find (is_offer_of offer.origin) offers))) here
       ∙ ap (is_offer_next offer.to) same ∙ eq-eqb offer.to offer.to refl
@@ -108,7 +108,7 @@ module _ (pool : ℕ) (past : List Entry) (legal : IsLegal pool past) (x : Sessi
           (transmit-asked pool past x.0 None own t.port t.ring has settled (open-at name t.port t.named) t.has (refusals-fit pool past x.0 None own Tx t.port t.ring has size found t.has fits))
 
       session-asked : (f : SessionId → Ask) (call : Ask) → MayAsk pool past x.0 (f x) → option_map f user.session ≡ Some call → MayAsk pool past x.0 call
-      session-asked f call may called = subst (MayAsk pool past x.0) (some-same (f x) call (ap (option_map f) (sym is) ∙ called)) may
+      session-asked f call may called = subst (MayAsk pool past x.0) (same_Some (f x) call (ap (option_map f) (sym is) ∙ called)) may
 
       task-asked : (tasks : List Task) (call : Ask) → IsSettled pool past x.0 → ArePaired tasks → FirstFits tasks → LeavesWithout own.ports tasks
           → call_of_tasks user tasks ≡ Some call → MayAsk pool past x.0 call
@@ -154,7 +154,7 @@ module _ (pool : ℕ) (past : List Entry) (legal : IsLegal pool past) (x : Sessi
         let p = order.0 in
         let found = by-id own name p.0 side.sound p.1 in
         let shut : is_shut (Some id) p.0.id.0 ≡ true = eq-eqb p.0.id.0 id p.2 in
-        let same : finish_call own p.0 ≡ call = some-same (finish_call own p.0) call (ap (option_map (finish_call own)) (sym p.1) ∙ called) in
+        let same : finish_call own p.0 ≡ call = same_Some (finish_call own p.0) call (ap (option_map (finish_call own)) (sym p.1) ∙ called) in
         subst (MayAsk pool past x.0) same (finish-asked pool past x.0 (Some id) own p.0 (record { legal = legal; of = side }) (found, shut))
     finish-now id _ call side order called = absurd order
 
@@ -171,8 +171,8 @@ module _ (pool : ℕ) (past : List Entry) (legal : IsLegal pool past) (x : Sessi
 
         by_offer : (lot : Option Lot) (offer : Option Offer) → owed_lot s.world x.0 ≡ lot → next_offer s.world x.0 ≡ offer
             → option_or (option_or (option_map done_call lot) (option_map grant_call offer)) (call_of_tasks user user.tasks) ≡ Some call → MayAsk pool past x.0 call
-        by_offer (Some lot) offer owed next e = subst (MayAsk pool past x.0) (some-same (done_call lot) call e) (done-asked lot owed)
-        by_offer None (Some offer) owed next e = subst (MayAsk pool past x.0) (some-same (grant_call offer) call e) (grant-asked offer next)
+        by_offer (Some lot) offer owed next e = subst (MayAsk pool past x.0) (same_Some (done_call lot) call e) (done-asked lot owed)
+        by_offer None (Some offer) owed next e = subst (MayAsk pool past x.0) (same_Some (grant_call offer) call e) (grant-asked offer next)
         by_offer None None owed next e =
             by_shut keeps.shut (subst (λ (y : Option SessionId). SideOf pool s y keeps.shut own) is keeps.side) keeps.order (is-settled owed next) e
 
@@ -195,7 +195,7 @@ module _ (pool : ℕ) (user : Machine) (call : Ask) (is : user.session ≡ None)
   arrives [] e = absurd cc
   arrives (Arrive ∷ rest) e =
       let comes : call_of_task user Arrive ≡ Some (Enter user.number) = rw is refl in
-      some-same call (Enter user.number) (sym e ∙ comes)
+      same_Some call (Enter user.number) (sym e ∙ comes)
   arrives (OpenPort name tx rx extra ∷ rest) e = absurd (no-session (λ (session : SessionId). Open session name tx rx extra) e)
   arrives (PutFrame name bytes ∷ rest) e = absurd (no-port (put_call user.own) name e)
   arrives (SendFrames name ∷ rest) e = absurd (no-port (send_call user.own) name e)
@@ -234,7 +234,7 @@ calls-may program captures h user call size comes fit = by_session comes.now.ses
         (apart-at comes.reached.count (units_of program captures) comes.reached.unit (units-apart program captures) comes.reached.there) each (have-same comes.reached.cast.users comes.reached.unit) comes.of_unit
 
     same : who.now ≡ comes.now
-    same = some-same who.now comes.now (sym who.here ∙ ap (λ (c : Cast). slice_get c.users (user - 1)) (sym comes.reached.nows_are) ∙ comes.here)
+    same = same_Some who.now comes.now (sym who.here ∙ ap (λ (c : Cast). slice_get c.users (user - 1)) (sym comes.reached.nows_are) ∙ comes.here)
 
     keeps : KeepsSide program.pool (standing_of program.pool h) comes.now
     keeps = subst (KeepsSide program.pool (standing_of program.pool h)) same who.goes

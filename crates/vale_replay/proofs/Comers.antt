@@ -4,6 +4,7 @@ use Rattle.std.specs.Prelude.{◌==◌, option_and_then}
 use Rattle.std.specs.Option.{option_or}
 use Rattle.std.specs.List.{list_any, AllByRecursion}
 use Rattle.std.proofs.lemmas.Bool.{eqb-true, eq-eqb, cases_Bool, cases_lt}
+use Rattle.std.proofs.lemmas.Option.{same_Some}
 use Rattle.nm_types.specs.declared.id.SessionId.{SessionId}
 use Rattle.nm_types.specs.OwnPorts.{Arrival}
 use Rattle.vale_entry.specs.declared.entry.Ask.{Ask}
@@ -21,7 +22,6 @@ use Rattle.vale_script.specs.Script.{Program}
 use Rattle.vale_replay.specs.Tasks.{Captures, Task, Arrive, Depart}
 use Rattle.vale_replay.specs.Machine.{Machine, settling_call, owed_lot, next_offer, done_call, grant_call, enter_call, call_of_tasks, next_call, with_tasks, answered, is_settling}
 use Rattle.vale_replay.specs.Replay.{Cast, UnitShare, ScriptUnit, TakesTurn, TakesTurns, EachShare, ReplaysShare, ReplaysUnit, ReplaysUnits, AreSplit, HasPlayed, Reaches, IsUnderWay, cast_of, standing_before, starting, units_of, users_of, with_afters}
-use Rattle.vale_replay.proofs.Turns.{some-same}
 use Rattle.vale_replay.proofs.Sessions.{rest-same, starting-same}
 use Rattle.vale_replay.proofs.Legal.{played-legal}
 use Rattle.vale_replay.proofs.Enters.{ask-by, call-enters}
@@ -37,7 +37,7 @@ tasks-stay n entry user next (Arrive ∷ rest) x ask is is' call stays =
     let none : None ≡ Some ask = ap (enter_call user.number) (sym is) ∙ call in
     absurd cc
 tasks-stay n entry user next (Depart ∷ rest) x ask is is' call stays =
-    let same : Leave x ≡ ask = some-same (Leave x) ask (ap (option_map Leave) (sym is) ∙ call) in
+    let same : Leave x ≡ ask = same_Some (Leave x) ask (ap (option_map Leave) (sym is) ∙ call) in
     let hit : is_leave_of x.0 (kept_ask ask) ≡ true = ap (λ (a : Ask). is_leave_of x.0 (kept_ask a)) (sym same) ∙ eq-eqb x.0 x.0 refl in
     let clash : true ≡ false = sym hit ∙ stays in
     absurd cc
@@ -46,8 +46,8 @@ tasks-stay n entry user next _ x ask is is' call stays = is'
 settles-or : (lot : Option Lot) (offer : Option Offer) (call : Option Ask) (ask : Ask)
     → option_or (option_or (option_map done_call lot) (option_map grant_call offer)) call ≡ Some ask
     → (is_settling (kept_ask ask) ≡ true) ⊎ (call ≡ Some ask)
-settles-or (Some lot) offer call ask e = inl (ap (λ (a : Ask). is_settling (kept_ask a)) (sym (some-same (done_call lot) ask e)))
-settles-or None (Some offer) call ask e = inl (ap (λ (a : Ask). is_settling (kept_ask a)) (sym (some-same (grant_call offer) ask e)))
+settles-or (Some lot) offer call ask e = inl (ap (λ (a : Ask). is_settling (kept_ask a)) (sym (same_Some (done_call lot) ask e)))
+settles-or None (Some offer) call ask e = inl (ap (λ (a : Ask). is_settling (kept_ask a)) (sym (same_Some (grant_call offer) ask e)))
 settles-or None None call ask e = inr e
 
 answer-stays : (n : ℕ) (entry : Entry) (came : List Arrival) (user : Machine) (x : SessionId) (ask : Ask) (b : Bool)
@@ -213,7 +213,7 @@ unit-session pool h cast first unit lists afters last x apart each split none co
 
         by_member : Member (ReplaysShare pool h) cast unit lists i now
             → ((before.session ≡ Some (record { 0 = x })) ⊎ (1 ≤ count_of x (numbers_at i unit lists))) → HasSession (with_afters unit afters cast.users) x
-        by_member m some = record { place = i; user = now; here = at; is = by_how m.before (some-same m.before before (sym m.here ∙ here)) m.how some }
+        by_member m some = record { place = i; user = now; here = at; is = by_how m.before (same_Some m.before before (sym m.here ∙ here)) m.how some }
 
     by_first : (first < x) ⊎ (x ≤ first) → HasSession (with_afters unit afters cast.users) x
     by_first (inl later) =
@@ -240,7 +240,7 @@ without-left true true e = absurd cc
 without-left false left e = absurd cc
 
 none-here : {X : Type 0} (p : X → Bool) (y x : X) (more : Bool) → (p y || more) ≡ false → Some y ≡ Some x → p x ≡ false
-none-here {X = X} p y x more none at = subst (λ (z : X). p z ≡ false) (some-same y x at) (front (p y) none)
+none-here {X = X} p y x more none at = subst (λ (z : X). p z ≡ false) (same_Some y x at) (front (p y) none)
   where
     front : (b : Bool) → (b || more) ≡ false → b ≡ false
     front true e = absurd cc
@@ -263,7 +263,7 @@ come-at : (h : List Entry) (x : ℕ) → has_come h x ≡ true → Comes h x
 come-at h zero come e at = absurd cc
 come-at h (suc n) come e at = let less : suc n - 1 ≡ n = omega arith in met-comes (slice_get h n) e come (ap (slice_get h) (sym less) ∙ at)
 
-met-within : (h : List Entry) (n : ℕ) → is_met is_coming (slice_get h n) ≡ true → suc n ≤ length h
+pub met-within : (h : List Entry) (n : ℕ) → is_met is_coming (slice_get h n) ≡ true → suc n ≤ length h
 met-within [] n e = absurd cc
 met-within (x ∷ h) zero e = omega arith
 met-within (x ∷ h) (suc n) e = let rest = met-within h n e in omega (arith, rest)

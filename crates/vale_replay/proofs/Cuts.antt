@@ -7,9 +7,10 @@ use Rattle.std.proofs.lemmas.List.{take-take}
 use Rattle.vale_entry.specs.declared.entry.Entry.{Entry}
 use Rattle.vale_entry.specs.Laws.{Rise}
 use Rattle.vale_entry.proofs.Counting.{count_of, count_of-cons}
+use Rattle.vale_entry.proofs.Rising.{rise-bounds}
 use Rattle.vale_replay.specs.Machine.{Machine}
 use Rattle.vale_replay.specs.Replay.{Cast, UnitShare, ScriptUnit, EachShare, ReplaysUser, ReplaysShare, ReplaysUnit, ReplaysUnits, AreSplit, NeedsNoCall, TakesTurn, TakesTurns, last_behind, last_of, starting, times_among}
-use Rattle.vale_replay.proofs.Numbers.{rise-low, rise-above, rise-last}
+use Rattle.vale_replay.proofs.Numbers.{rise-above, rise-last}
 use Rattle.vale_replay.proofs.Turns.{reads-to-last, length-take}
 use Rattle.vale_replay.proofs.Members.{among-cons}
 use Rattle.vale_replay.proofs.Joins.{split-in, split-has, split-below, split-from, last-counted}
@@ -55,7 +56,7 @@ up_to-rise : (count low : ℕ) (ns : List ℕ) (high : ℕ) → Rise low ns high
     → Rise low (up_to count ns) high
 up_to-rise count low [] high rise = rise
 up_to-rise count low (n ∷ ns) high rise =
-    up_to-rise_by count low n ns high (nat_le n count) rise.0 (rise-low low (n ∷ ns) high rise) (up_to-rise count n ns high rise.1)
+    up_to-rise_by count low n ns high (nat_le n count) rise.0 (rise-bounds low (n ∷ ns) high rise) (up_to-rise count n ns high rise.1)
 
 up_to-last_by : (count low n : ℕ) (ns : List ℕ) (here : Bool) → nat_le n count ≡ here
     → low ≤ count → (n ≤ count → last_behind n (up_to count ns) ≤ count)

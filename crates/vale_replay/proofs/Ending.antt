@@ -3,6 +3,7 @@ use Rattle.std.proofs.Common.{Bool, true, false, cond, not, ℕ, suc, ◌+◌, �
 use Rattle.std.specs.Prelude.{◌||◌, option_and_then, sum_by}
 use Rattle.std.specs.Option.{option_or, option_map_or}
 use Rattle.std.proofs.lemmas.List.Sums.{sum_by-cons}
+use Rattle.std.proofs.lemmas.Option.{same_Some}
 use Rattle.nm_types.specs.declared.id.SessionId.{SessionId}
 use Rattle.nm_types.specs.OwnPorts.{OwnPort, OwnState, Arrival, port_with_name, port_with_id}
 use Rattle.vale_entry.specs.declared.entry.Ask.{Ask}
@@ -19,7 +20,6 @@ use Rattle.vale_replay.specs.Tasks.{Task, Arrive, PutFrame, SendFrames, Depart, 
 use Rattle.vale_replay.specs.Machine.{Machine, call_of_task, call_of_tasks, after_task, at_rest, resting, put_call, has_room_at, is_reset, is_peer_gone, with_tasks, answered, is_settling, settling_call, owed_lot, next_offer, done_call, grant_call, next_call}
 use Rattle.vale_replay.specs.Replay.{TakesTurn, TakesTurns, standing_before, entry_made, starting}
 use Rattle.vale_replay.specs.FewTurns.{offers_made, offers_by, offers_at, HasFewTurns, TurnsAreFew}
-use Rattle.vale_replay.proofs.Turns.{some-same}
 use Rattle.vale_replay.proofs.PutRooms.{room-none}
 use Rattle.vale_replay.proofs.Legal.{made-follows, take-one_more}
 use Rattle.vale_replay.proofs.Sessions.{GoesOnAs, rest-same, turn-on}
@@ -111,8 +111,8 @@ call-is w user ask called = by user.session called
     by_offer : (lot : Option Lot) (offer : Option Offer)
         → option_or (option_or (option_map done_call lot) (option_map grant_call offer)) (call_of_tasks user user.tasks) ≡ Some ask
         → (is_settling (kept_ask ask) ≡ true) ⊎ (call_of_tasks user user.tasks ≡ Some ask)
-    by_offer (Some lot) offer e = inl (ap (λ (a : Ask). is_settling (kept_ask a)) (sym (some-same (done_call lot) ask e)))
-    by_offer None (Some offer) e = inl (ap (λ (a : Ask). is_settling (kept_ask a)) (sym (some-same (grant_call offer) ask e)))
+    by_offer (Some lot) offer e = inl (ap (λ (a : Ask). is_settling (kept_ask a)) (sym (same_Some (done_call lot) ask e)))
+    by_offer None (Some offer) e = inl (ap (λ (a : Ask). is_settling (kept_ask a)) (sym (same_Some (grant_call offer) ask e)))
     by_offer None None e = inr e
 
     by : (session : Option SessionId)

@@ -1,5 +1,6 @@
 -- An Enter is made by a user that has it to do, and names that user.
 use Rattle.std.proofs.Common.{Bool, true, false, cond, ℕ, ◌≡◌, ◌⊎◌, inl, inr, List, [], ◌∷◌, Option, Some, None, option_map, sym, ◌∙◌, ap}
+use Rattle.std.proofs.lemmas.Option.{same_Some}
 use Rattle.std.specs.Prelude.{option_and_then}
 use Rattle.std.specs.Option.{option_or}
 use Rattle.nm_types.specs.declared.fault.SyncFault.{SyncFault}
@@ -20,7 +21,6 @@ use Rattle.vale_entry.specs.OwnCalls.{or_reset, offered_items, back_in, tx_call,
 use Rattle.vale_replay.specs.Tasks.{Task, Arrive, OpenPort, PutFrame, SendFrames, TakeFrames, ChangeOwn, SaveFrames, WatchPort, ReadCounts, ShutPort, FinishPort, Depart, EndLine}
 use Rattle.vale_replay.specs.Machine.{Machine, enter_call, room_call, put_call, send_call, call_of_task, call_of_tasks, settling_call, owed_lot, next_offer, done_call, grant_call, next_call}
 use Rattle.vale_replay.specs.Replay.{TakesTurn, caller_of, entry_of, standing_before}
-use Rattle.vale_replay.proofs.Turns.{some-same}
 
 -- where a call is an Enter, it names this user
 abbrev EntersAs : ℕ → Option Ask → Type 0
@@ -68,7 +68,7 @@ room-enters number s p r true name e = absurd cc
 room-enters number s p r false name e = tx-enters number s p r name e
 
 own-enters : (number : ℕ) (session : Option SessionId) → EntersAs number (enter_call number session)
-own-enters number None name e = let same : Enter number ≡ Enter name = some-same (Enter number) (Enter name) e in cc
+own-enters number None name e = let same : Enter number ≡ Enter name = same_Some (Enter number) (Enter name) e in cc
 own-enters number (Some session) name e = absurd cc
 
 task-enters : (user : Machine) (task : Task) → EntersAs user.number (call_of_task user task)
@@ -110,7 +110,7 @@ call-enters w user =
 pub ask-by : (ask : Ask) (entry : Entry) (made : Option Outcome)
     → option_map (entry_of ask) made ≡ Some entry → entry.ask ≡ kept_ask ask
 ask-by ask entry None e = absurd cc
-ask-by ask entry (Some made) e = ap (λ (x : Entry). x.ask) (sym (some-same (entry_of ask made) entry e))
+ask-by ask entry (Some made) e = ap (λ (x : Entry). x.ask) (sym (same_Some (entry_of ask made) entry e))
 
 -- Whose an entry is: its user's session's, or it is the Enter of the user.
 pub record Enters (n : ℕ) (user : Machine) (entry : Entry) : Type 0 where
@@ -121,7 +121,7 @@ enters-by : (n : ℕ) (w : World) (user : Machine) (ask : Ask) (entry : Entry)
     → next_call w user ≡ Some ask → entry.ask ≡ kept_ask ask → caller_of n user ask ≡ Some entry.session
     → (user.session ≡ Some entry.session) ⊎ Enters n user entry
 enters-by n w user (Enter name) entry asked is e =
-    let same : record { 0 = n } ≡ entry.session = some-same (record { 0 = n }) entry.session e in
+    let same : record { 0 = n } ≡ entry.session = same_Some (record { 0 = n }) entry.session e in
     let number : name ≡ user.number = call-enters w user name asked in
     inr (record { session = ap (λ (x : SessionId). x.0) (sym same); ask = is ∙ ap Enter number })
 enters-by n w user _ entry asked is e = inl e

@@ -6,6 +6,7 @@ use Rattle.std.specs.List.{range_with_len, AllByRecursion}
 use Rattle.std.proofs.lemmas.Bool.{eqb-true, eq-eqb, ne_eqb, cases_Bool, cases_lt, lt-ltb, le-ltb, le-leb, lt-leb}
 use Rattle.std.proofs.lemmas.List.{take-take}
 use Rattle.std.proofs.lemmas.List.Elements.{All-from_recursion}
+use Rattle.std.proofs.lemmas.Option.{same_Some}
 use Rattle.nm_types.specs.declared.id.SessionId.{SessionId}
 use Rattle.vale_entry.specs.declared.entry.Ask.{Ask}
 use Rattle.vale_entry.specs.declared.entry.Entry.{Entry}
@@ -22,7 +23,6 @@ use Rattle.vale_replay.specs.Machine.{Machine, new_machine, settling_call, call_
 use Rattle.vale_replay.specs.Replay.{Cast, UnitShare, ScriptUnit, EachShare, PlaysUser, ReplaysShare, AreSplit, NeedsNoCall, ReplaysUnit, ReplaysUnits, acts_of, cast_after, cast_of, closing_unit, has_line, last_behind, share_of, shares_of, starting, times_among, units_of, user_count, with_afters}
 use Rattle.vale_replay.specs.Joined.{PlaysShare, IsWithin, TurnsOfUnit, TurnsOfUnits, lists_in, JoinsUsers}
 use Rattle.vale_replay.proofs.Numbers.{rise-cut, rise-past, rise-wider, range-rises}
-use Rattle.vale_replay.proofs.Turns.{some-same}
 use Rattle.vale_replay.proofs.Legal.{FollowsAt, shares-follow, legal-to}
 use Rattle.vale_replay.proofs.Others.{settling-same}
 use Rattle.vale_replay.proofs.Sessions.{IsOwnSession, starting-same, own-after, own-entry, number-after}
@@ -193,7 +193,7 @@ come-next pool h cast first unit lists afters last apart each split up come = re
 abbrev pub OwesNothing : ℕ → List Entry → Option SessionId → Type 0
 OwesNothing pool h session = option_and_then (settling_call (standing_of pool h).world) session ≡ None
 
-or-first : (x y : Option Ask) → option_or x y ≡ None → x ≡ None
+pub or-first : (x y : Option Ask) → option_or x y ≡ None → x ≡ None
 or-first None y e = refl
 or-first (Some a) y e = absurd cc
 
@@ -573,7 +573,7 @@ take-apart (suc count) (unit ∷ units) apart = (apart.0, take-apart count units
 pub apart-at : (count : ℕ) (units : List ScriptUnit) (unit : ScriptUnit)
     → AllByRecursion AreApart units → slice_get units count ≡ Some unit → AreApart unit
 apart-at count [] unit apart at = absurd cc
-apart-at zero (u ∷ units) unit apart at = subst AreApart (some-same u unit at) apart.0
+apart-at zero (u ∷ units) unit apart at = subst AreApart (same_Some u unit at) apart.0
 apart-at (suc count) (u ∷ units) unit apart at = apart-at count units unit apart.1 at
 
 new-at : (pool low count i : ℕ) (u : Machine)
@@ -581,7 +581,7 @@ new-at : (pool low count i : ℕ) (u : Machine)
     → (u.session ≡ None) × (u.number ≡ i + low)
 new-at pool low zero i u at = absurd cc
 new-at pool low (suc count) zero u at =
-    let is : new_machine pool low ≡ u = some-same (new_machine pool low) u at in
+    let is : new_machine pool low ≡ u = same_Some (new_machine pool low) u at in
     let number : u.number ≡ low = ap (λ (m : Machine). m.number) (sym is) in
     (ap (λ (m : Machine). m.session) (sym is), omega (arith, number))
 new-at pool low (suc count) (suc i) u at =

@@ -5,6 +5,7 @@ use Rattle.std.specs.List.{range_with_len, list_any, AllByRecursion}
 use Rattle.std.proofs.lemmas.Bool.{eqb-true, eqb-false, eq-eqb, cases_Bool, cases_lt}
 use Rattle.std.proofs.lemmas.List.{append-nil, length-replicate, length-map}
 use Rattle.std.proofs.lemmas.List.FromFn.{length-range_with_len}
+use Rattle.std.proofs.lemmas.Option.{same_Some, slice_get_within}
 use Rattle.nm_types.specs.declared.id.SessionId.{SessionId}
 use Rattle.nm_types.specs.OwnPorts.{OwnPort, OwnState, Arrival, empty_own}
 use Rattle.vale_entry.specs.declared.entry.Ask.TheVariants.{Leave}
@@ -22,7 +23,6 @@ use Rattle.vale_replay.specs.Machine.{Machine, new_machine, closing_of, closing_
 use Rattle.vale_replay.specs.Replay.{Cast, UnitShare, ScriptUnit, TakesTurn, TakesTurns, ReplaysUnit, ReplaysUnits, NeedsNoCall, HasPlayed, cast_of, closing_unit, shares_of, standing_before, starting, units_of, user_count, with_afters}
 use Rattle.vale_replay.specs.Laws.{HasNoSession, UsersLeave}
 use Rattle.vale_replay.specs.Owners.{Owner, Pool, owner_of_each, owners_at, owners_of_port, owners_of_user, owners_of, times_in, BuffersComeBack}
-use Rattle.vale_replay.proofs.Turns.{some-same}
 use Rattle.vale_replay.proofs.Members.{get-same, get-other}
 use Rattle.vale_replay.proofs.Units.{Alone, alone}
 use Rattle.vale_replay.proofs.TaskSides.{SideOf}
@@ -143,7 +143,7 @@ closing-left pool h cast first low next last some r left i u at below = by_place
     by_place : ((low - 1 == i) ≡ true) ⊎ ((low - 1 == i) ≡ false) → u.session ≡ None
     by_place (inl e) =
         let is : low - 1 ≡ i = eqb-true (low - 1) i e in
-        let same : one.after ≡ u = some-same one.after u (sym (ap (slice_get (slice_set cast.users (low - 1) one.after)) (sym is) ∙ get-same cast.users (low - 1) one.after one.before one.here) ∙ found) in
+        let same : one.after ≡ u = same_Some one.after u (sym (ap (slice_get (slice_set cast.users (low - 1) one.after)) (sym is) ∙ get-same cast.users (low - 1) one.after one.before one.here) ∙ found) in
         ap (λ (m : Machine). m.session) (sym same) ∙ after
     by_place (inr e) =
         let other = eqb-false (low - 1) i e in
@@ -190,11 +190,6 @@ units-length pool h cast first (unit ∷ units) next last r =
     let one : ReplaysUnit pool h cast first unit r.0 r.1.0 = r.1.1.0 in
     units-length pool h r.0 r.1.0 units next last r.1.1.1 ∙ ap (λ (c : Cast). length c.users) one.others ∙ after-length unit one.afters cast.users
 
-get-within : {X : Type 0} (xs : List X) (i : ℕ) (x : X) → slice_get xs i ≡ Some x → i < length xs
-get-within [] i x at = absurd cc
-get-within (y ∷ ys) zero x at = omega arith
-get-within (y ∷ ys) (suc i) x at = let rest = get-within ys i x at in omega (arith, rest)
-
 users-left : (program : Program) (captures : Captures) (h : List Entry) (cast : Cast) → HasPlayed program captures h cast
     → (i : ℕ) (u : Machine) → slice_get cast.users i ≡ Some u → u.session ≡ None
 users-left program captures h cast played i u at =
@@ -206,7 +201,7 @@ users-left program captures h cast played i u at =
         ∙ length-map (range_with_len 1 (user_count program)) (new_machine program.pool) ∙ length-range_with_len 1 (user_count program)
 
     below : i + 1 < 1 + user_count program
-    below = let within = get-within cast.users i u at in omega (arith, within, count)
+    below = let within = slice_get_within cast.users i u at in omega (arith, within, count)
 
 -- What is left then.
 

@@ -4,12 +4,11 @@ use Rattle.std.proofs.Common.{Bool, true, false, cond, ℕ, zero, suc, ◌+◌, 
 use Rattle.std.specs.Prelude.{nat_lt, nat_le, ◌&&◌, ◌==◌, flat_map}
 use Rattle.std.proofs.lemmas.Bool.{eqb-true, cases_lt, cases_Bool, lt-ltb, le-leb}
 use Rattle.std.proofs.lemmas.List.{take_all}
+use Rattle.vale_own.proofs.Rooms.{step-recorded}
 use Rattle.vale_entry.specs.declared.entry.Ask.{Ask}
-use Rattle.vale_entry.specs.declared.entry.Ask.TheVariants.{Enter, Open, Send, Grant, Done, Sync, Reset, Shut, Finish, Leave, Put, PutKept, Get, Watch, Stat}
 use Rattle.vale_entry.specs.declared.entry.Entry.{Entry}
-use Rattle.vale_entry.specs.Legal.{Standing, Outcome, step, kept_ask, recorded_step, session_and_reply, standing_of, Follows, IsLegal}
+use Rattle.vale_entry.specs.Legal.{Standing, Outcome, step, session_and_reply, standing_of, Follows, IsLegal}
 use Rattle.vale_entry.proofs.Counting.{count_of, count_of-cons, count_of-append}
-use Rattle.vale_entry.proofs.KeptPuts.{puts-kept}
 use Rattle.vale_entry.proofs.Worlds.{legal-push}
 use Rattle.vale_script.specs.Script.{Program}
 use Rattle.vale_replay.specs.Machine.{Machine}
@@ -17,31 +16,12 @@ use Rattle.vale_replay.specs.Replay.{Cast, TakesTurn, TakesTurns, ReplaysShare, 
 use Rattle.vale_replay.specs.Laws.{PlayedIsLegal}
 use Rattle.vale_replay.specs.Tasks.{Captures}
 
--- the entry that an ask makes follows
-recorded : (s : Standing) (ask : Ask) (made : Outcome) → step s ask ≡ Some made
-    → recorded_step s (kept_ask ask) made.reply ≡ Some made
-recorded s (Enter user) made e = e
-recorded s (Open session name tx rx extra) made e = e
-recorded s (Send port frames) made e = e
-recorded s (Grant origin to) made e = e
-recorded s (Done lease) made e = e
-recorded s (Sync port back) made e = e
-recorded s (Reset port side fault) made e = e
-recorded s (Shut port) made e = e
-recorded s (Finish port bufs chain) made e = e
-recorded s (Leave session) made e = e
-recorded s (Put port offered) made e = puts-kept s port offered made e
-recorded s (PutKept port offered) made e = absurd cc
-recorded s (Get port back) made e = e
-recorded s (Watch monitor target sides) made e = e
-recorded s (Stat port) made e = e
-
 made-by : (s : Standing) (ask : Ask) (entry : Entry) (made : Option Outcome) → step s ask ≡ made
     → option_map (entry_of ask) made ≡ Some entry → Follows s entry
 made-by s ask entry None e is = absurd cc
 made-by s ask entry (Some made) e is =
     let same : entry_of ask made ≡ entry = cc in
-    let here : Follows s (entry_of ask made) = ap (option_map session_and_reply) (recorded s ask made e) in
+    let here : Follows s (entry_of ask made) = ap (option_map session_and_reply) (step-recorded s ask made e) in
     subst (λ (x : Entry). Follows s x) same here
 
 pub made-follows : (s : Standing) (ask : Ask) (entry : Entry) → entry_made s ask ≡ Some entry

@@ -3,11 +3,11 @@ use Rattle.std.proofs.Common.{Bool, true, false, cond, ℕ, zero, suc, ◌+◌, 
 use Rattle.std.specs.Prelude.{◌==◌, ◌||◌, flat_map}
 use Rattle.std.specs.List.{list_any, AllByRecursion}
 use Rattle.std.proofs.lemmas.Bool.{eqb-true, eq-eqb, ne_eqb, cases_Bool, cases_lt}
+use Rattle.std.proofs.lemmas.Option.{same_Some}
 use Rattle.vale_entry.specs.Laws.{Rise}
 use Rattle.vale_entry.proofs.Counting.{count_of, count_of-append}
 use Rattle.vale_replay.specs.Machine.{Machine}
 use Rattle.vale_replay.specs.Replay.{Cast, UnitShare, ScriptUnit, EachShare, is_share_of, times_among, with_afters}
-use Rattle.vale_replay.proofs.Turns.{some-same}
 
 -- Places of a list.
 
@@ -82,7 +82,7 @@ member-here R cast users' share shares ns lists a afters i after before away e h
     let new : slice_get (with_afters (share ∷ shares) (a ∷ afters) users') i ≡ Some a =
     ap (slice_get (with_afters (share ∷ shares) (a ∷ afters) users')) (sym is)
     ∙ after-elsewhere (place_of share) shares afters (slice_set users' (place_of share) a) away ∙ get-same users' (place_of share) a before old in
-    let after_is : a ≡ after = some-same a after (sym new ∙ found) in
+    let after_is : a ≡ after = same_Some a after (sym new ∙ found) in
     record {
       before = before;
       here = here';
@@ -236,7 +236,7 @@ pub have-same : (users : List Machine) (unit : ScriptUnit) → HaveSame users us
 have-same users [] = tt
 have-same users (share ∷ shares) = (refl, have-same users shares)
 
-other-place : (i j : ℕ) → (i == j) ≡ false → (j == i) ≡ false
+pub other-place : (i j : ℕ) → (i == j) ≡ false → (j == i) ≡ false
 other-place i j e = ne_eqb j i (λ is. apart-eq (sym is))
   where
     apart-eq : i ≡ j → ⊥

@@ -5,11 +5,8 @@ use Rattle.std.specs.List.{range_with_len}
 use Rattle.std.proofs.lemmas.Bool.{eq-eqb, ne_eqb, cases_lt, lt-ltb, le-ltb, le-leb, lt-leb}
 use Rattle.vale_entry.specs.Laws.{Rise}
 use Rattle.vale_entry.proofs.Counting.{count_of, count_of-cons, count_of-append}
+use Rattle.vale_entry.proofs.Rising.{rise-bounds}
 use Rattle.vale_replay.specs.Replay.{last_behind, AreSplit}
-
-pub rise-low : (low : ℕ) (ns : List ℕ) (high : ℕ) → Rise low ns high → low ≤ high
-rise-low low [] high r = r
-rise-low low (n ∷ ns) high r = let a = r.0 in let b = rise-low n ns high r.1 in omega (arith, a, b)
 
 pub rise-last : (low : ℕ) (ns : List ℕ) (high : ℕ) → Rise low ns high → low ≤ last_behind low ns
 rise-last low [] high r = omega arith
@@ -30,7 +27,7 @@ rise-wider less low [] high down r = let up : low ≤ high = r in omega (arith, 
 rise-wider less low (n ∷ ns) high down r = let a = r.0 in (omega (arith, down, a), r.1)
 
 pub rise-front : (low : ℕ) (ns ms : List ℕ) (high : ℕ) → Rise low (ns ++ ms) high → Rise low ns high
-rise-front low [] ms high r = rise-low low ms high r
+rise-front low [] ms high r = rise-bounds low ms high r
 rise-front low (n ∷ ns) ms high r = (r.0, rise-front n ns ms high r.1)
 
 pub rise-back : (low : ℕ) (ns ms : List ℕ) (high : ℕ) → Rise low (ns ++ ms) high → Rise low ms high
@@ -156,7 +153,7 @@ pub rise-past : (low : ℕ) (ns : List ℕ) (high b : ℕ) → Rise low ns high 
     → count_of b ns ≡ 0
 rise-past low [] high b r past = refl
 rise-past low (n ∷ ns) high b r past =
-    let up = rise-low n ns high r.1 in
+    let up = rise-bounds n ns high r.1 in
     let miss : (n == b) ≡ false = ne_eqb n b (λ e. omega (arith, up, past, e)) in
     let rest = rise-past n ns high b r.1 past in
     rw (count_of-cons b n ns, miss) (omega (arith, rest))

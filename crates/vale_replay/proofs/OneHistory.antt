@@ -5,6 +5,7 @@ use Rattle.std.specs.List.{range_with_len, list_any}
 use Rattle.std.specs.Prelude.{◌==◌, ◌||◌}
 use Rattle.std.proofs.lemmas.Bool.{eqb-true}
 use Rattle.std.proofs.lemmas.List.{take_all}
+use Rattle.std.proofs.lemmas.Option.{same_Some}
 use Rattle.vale_entry.specs.declared.entry.Ask.{Ask}
 use Rattle.vale_entry.specs.declared.entry.Entry.{Entry}
 use Rattle.vale_entry.specs.Arrivals.{arrivals_of}
@@ -13,18 +14,13 @@ use Rattle.vale_script.specs.Script.{Program}
 use Rattle.vale_replay.specs.Machine.{Machine, next_call, resting, answered}
 use Rattle.vale_replay.specs.Replay.{Cast, UnitShare, ScriptUnit, TakesTurn, TakesTurns, ReplaysShare, ReplaysUnits, EachShare, ComesTo, cast_after, cast_of, entry_made, is_share_of, standing_before, starting, units_of, with_user}
 use Rattle.vale_replay.specs.Laws.{HasNoBlock, PlaysOneHistory, BeginsWith, UnderWayIsBeginning, UnderWayIsOne}
-use Rattle.vale_replay.proofs.Turns.{some-same, entry-same}
+use Rattle.vale_replay.proofs.Turns.{entry-same}
 use Rattle.vale_replay.proofs.Units.{Alone, AloneUnits, alone_share, alone-units, alone-so_far, numbers_between, shares_in, units-alone, take-alone, unit-at}
+use Rattle.vale_replay.proofs.Legal.{take-one_more}
 use Rattle.vale_replay.specs.Tasks.{Captures}
 
 abbrev call-at : ℕ → List Entry → Machine → Option Ask
 call-at pool h user = next_call (standing_of pool h).world user
-
-take-next : (h : List Entry) (n : ℕ) (e : Entry) → slice_get h n ≡ Some e
-    → take (suc n) h ≡ take n h ++ e ∷ []
-take-next [] n e there = absurd cc
-take-next (x ∷ xs) zero e there = let same : x ≡ e = cc in ap (λ (y : Entry). y ∷ []) same
-take-next (x ∷ xs) (suc n) e there = ap (λ (ys : List Entry). x ∷ ys) (take-next xs n e there)
 
 -- two turns from one state behind the same entries
 pub record SameTurn (h k : List Entry) (first : ℕ) (after after' : Machine) : Type 0 where
@@ -46,7 +42,7 @@ turn-same pool h k first m after after' same one other =
     record {
       after_is = one.goes_on ∙ ap (λ (x : Standing). resting (answered (first + 1) one.entry (arrivals_of x one.entry.ask one.entry.reply) m)) stands
           ∙ ap (λ (e : Entry). resting (answered (first + 1) e (arrivals_of s e.ask e.reply) m)) entries ∙ sym other.goes_on;
-      taken = take-next h first one.entry here ∙ ap (λ (es : List Entry). es ++ one.entry ∷ []) same ∙ ap (λ (e : Entry). take first k ++ e ∷ []) entries ∙ sym (take-next k first other.entry there);
+      taken = take-one_more h first one.entry here ∙ ap (λ (es : List Entry). es ++ one.entry ∷ []) same ∙ ap (λ (e : Entry). take first k ++ e ∷ []) entries ∙ sym (take-one_more k first other.entry there);
     }
 
 -- Turns of one user up to where it needs no call more.
@@ -99,7 +95,7 @@ unit-same : (pool : ℕ) (h k : List Entry) (cast : Cast) (first : ℕ) (unit : 
     → take first h ≡ take first k
     → Alone pool h cast first unit next last → Alone pool k cast first unit next' last' → SameUnits h k next next' last last'
 unit-same pool h k cast first unit next next' last last' same one other =
-    let before : one.before ≡ other.before = some-same one.before other.before (sym one.here ∙ other.here) in
+    let before : one.before ≡ other.before = same_Some one.before other.before (sym one.here ∙ other.here) in
     let up = one.forward in
     let up' = other.forward in
     let ends : first + (last - first) ≡ last = omega (arith, up) in
@@ -147,7 +143,7 @@ begins-by : (pool : ℕ) (h k : List Entry) (n : ℕ) (e : Entry) (call : Ask) �
 begins-by pool h k n e call same there made = record {
   entry = e;
   rest = drop (suc n) h;
-  joined = sym (take-append-drop (suc n) h) ∙ ap (λ (es : List Entry). es ++ drop (suc n) h) (take-next h n e there) ∙ cut (take n h) ∙ ap (λ (es : List Entry). es ++ e ∷ drop (suc n) h) same;
+  joined = sym (take-append-drop (suc n) h) ∙ ap (λ (es : List Entry). es ++ drop (suc n) h) (take-one_more h n e there) ∙ cut (take n h) ∙ ap (λ (es : List Entry). es ++ e ∷ drop (suc n) h) same;
   made = made;
 }
   where
@@ -180,7 +176,7 @@ turns-begin pool h k first (suc count) zero m after now call same one other ende
     let number : first + 1 - 1 ≡ first + 0 = omega arith in
     let turn = one.1.0 in
     let stands : standing_before pool h (first + 1) ≡ standing_of pool (take (first + 0) k) = ap (standing_of pool) (ap (λ n. take n h) (number ∙ at) ∙ same ∙ ap (λ n. take n k) (sym at)) in
-    let asks : turn.ask ≡ call = some-same turn.ask call (sym turn.asked ∙ ap (λ (s : Standing). next_call s.world m) stands ∙ ap (call-at pool (take (first + 0) k)) (sym other) ∙ called) in
+    let asks : turn.ask ≡ call = same_Some turn.ask call (sym turn.asked ∙ ap (λ (s : Standing). next_call s.world m) stands ∙ ap (call-at pool (take (first + 0) k)) (sym other) ∙ called) in
     (turn.entry, (ap (slice_get h) (sym number) ∙ turn.there, (made-there pool (standing_before pool h (first + 1)) (take (first + 0) k) turn.ask call turn.entry stands asks turn.made, ap (λ n. take n h) at ∙ same ∙ ap (λ n. take n k) (sym at))))
 turns-begin pool h k first (suc count) (suc count') m after now call same one other ended called =
     let t = turn-same pool h k first m one.0 other.0 same one.1.0 other.1.0 in
@@ -198,9 +194,9 @@ units-begin : (pool : ℕ) (h k : List Entry) (cast : Cast) (first : ℕ) (units
     → BeginsWith pool h k call
 units-begin pool h k cast first [] next last count unit between from before now call same one there other here up turns called = absurd cc
 units-begin pool h k cast first (u ∷ units) next last zero unit between from before now call same one there other here up turns called =
-    let is : u ≡ unit = some-same u unit there in
+    let is : u ≡ unit = same_Some u unit there in
     let r : Alone pool h cast first unit one.0 one.1.0 = subst (λ (x : UnitShare). Alone pool h cast first x one.0 one.1.0) is one.1.1.0 in
-    let same_before : r.before ≡ before = some-same r.before before (sym r.here ∙ ap (λ (c : Cast). slice_get c.users (unit.user - 1)) (sym other.0) ∙ here) in
+    let same_before : r.before ≡ before = same_Some r.before before (sym r.here ∙ ap (λ (c : Cast). slice_get c.users (unit.user - 1)) (sym other.0) ∙ here) in
     let front = r.forward in
     let from_is : from ≡ first = other.1 in
     let ends : first + (one.1.0 - first) ≡ one.1.0 = omega (arith, front) in
@@ -235,7 +231,7 @@ record OnItsWay (pool : ℕ) (cast : Cast) (shares : ScriptUnit) (h : List Entry
 set-here : (users : List Machine) (n : ℕ) (old new now : Machine) → slice_get users n ≡ Some old
     → slice_get (slice_set users n new) n ≡ Some now → new ≡ now
 set-here [] n old new now here there = absurd cc
-set-here (u ∷ users) zero old new now here there = some-same new now there
+set-here (u ∷ users) zero old new now here there = same_Some new now there
 set-here (u ∷ users) (suc n) old new now here there = set-here users n old new now here there
 
 user-is : (user : ℕ) (share : UnitShare) → list_any (is_share_of user) (share ∷ []) ≡ true
@@ -299,13 +295,13 @@ turns-two pool h k first zero zero m now now' call next all all' same one other 
     let whole : take first h ≡ h = take_all first h (omega (arith, all)) in
     let whole' : take first k ≡ k = take_all first k (omega (arith, all')) in
     let equal : h ≡ k = sym whole ∙ same ∙ whole' in
-    inl (equal, some-same call next (sym called ∙ ap (λ (es : List Entry). call-at pool es now) equal ∙ ap (call-at pool k) (one ∙ sym other) ∙ called'))
+    inl (equal, same_Some call next (sym called ∙ ap (λ (es : List Entry). call-at pool es now) equal ∙ ap (call-at pool k) (one ∙ sym other) ∙ called'))
 turns-two pool h k first zero (suc count') m now now' call next all all' same one other called called' =
     let turn = other.1.0 in
     let at : first + 1 - 1 ≡ first = omega arith in
     let whole : take first h ≡ h = take_all first h (omega (arith, all)) in
     let stands : standing_before pool k (first + 1) ≡ standing_of pool h = ap (λ n. standing_of pool (take n k)) at ∙ ap (standing_of pool) (sym same ∙ whole) in
-    let asks : turn.ask ≡ call = some-same turn.ask call (sym turn.asked ∙ ap (λ (s : Standing). next_call s.world m) stands ∙ ap (call-at pool h) (sym one) ∙ called) in
+    let asks : turn.ask ≡ call = same_Some turn.ask call (sym turn.asked ∙ ap (λ (s : Standing). next_call s.world m) stands ∙ ap (call-at pool h) (sym one) ∙ called) in
     inr (inr (begins-by pool k h first turn.entry call (sym same ∙ whole) (ap (slice_get k) (sym at) ∙ turn.there)
     (made-there pool (standing_before pool k (first + 1)) h turn.ask call turn.entry stands asks turn.made)))
 turns-two pool h k first (suc count) zero m now now' call next all all' same one other called called' =
@@ -313,7 +309,7 @@ turns-two pool h k first (suc count) zero m now now' call next all all' same one
     let at : first + 1 - 1 ≡ first = omega arith in
     let whole : take first k ≡ k = take_all first k (omega (arith, all')) in
     let stands : standing_before pool h (first + 1) ≡ standing_of pool k = ap (λ n. standing_of pool (take n h)) at ∙ ap (standing_of pool) (same ∙ whole) in
-    let asks : turn.ask ≡ next = some-same turn.ask next (sym turn.asked ∙ ap (λ (s : Standing). next_call s.world m) stands ∙ ap (call-at pool k) (sym other) ∙ called') in
+    let asks : turn.ask ≡ next = same_Some turn.ask next (sym turn.asked ∙ ap (λ (s : Standing). next_call s.world m) stands ∙ ap (call-at pool k) (sym other) ∙ called') in
     inr (inl (begins-by pool h k first turn.entry next (same ∙ whole) (ap (slice_get h) (sym at) ∙ turn.there)
     (made-there pool (standing_before pool h (first + 1)) k turn.ask next turn.entry stands asks turn.made)))
 turns-two pool h k first (suc count) (suc count') m now now' call next all all' same one other called called' =
@@ -337,8 +333,8 @@ units-two : (pool : ℕ) (h k : List Entry) (cast : Cast) (first : ℕ) (units :
     → OneOrBegun pool h k call next
 units-two pool h k cast first [] count count' unit unit' between between' from from' before before' now now' call next same there one here up turns called there' other here' up' turns' called' = absurd cc
 units-two pool h k cast first (u ∷ units) zero zero unit unit' between between' from from' before before' now now' call next same there one here up turns called there' other here' up' turns' called' =
-    let is : unit ≡ unit' = some-same unit unit' (sym there ∙ there') in
-    let same_before : before ≡ before' = some-same before before' (sym here ∙ ap (λ (c : Cast). slice_get c.users (unit.user - 1)) (one.0 ∙ sym other.0) ∙ ap (λ (x : UnitShare). slice_get between'.users (x.user - 1)) is ∙ here') in
+    let is : unit ≡ unit' = same_Some unit unit' (sym there ∙ there') in
+    let same_before : before ≡ before' = same_Some before before' (sym here ∙ ap (λ (c : Cast). slice_get c.users (unit.user - 1)) (one.0 ∙ sym other.0) ∙ ap (λ (x : UnitShare). slice_get between'.users (x.user - 1)) is ∙ here') in
     let from_is : from ≡ first = one.1 in
     let from_is' : from' ≡ first = other.1 in
     turns-two pool h k first (length h - first) (length k - first) (starting unit before) now now' call next (omega (arith, up, from_is)) (omega (arith, up', from_is')) same
@@ -346,12 +342,12 @@ units-two pool h k cast first (u ∷ units) zero zero unit unit' between between
     (subst (λ (m : Machine). TakesTurns pool k (starting unit m) (numbers_between first (length k)) now') (sym same_before) (subst (λ (x : UnitShare). TakesTurns pool k (starting x before') (numbers_between first (length k)) now') (sym is) (subst (λ (n : ℕ). TakesTurns pool k (starting unit' before') (numbers_between n (length k)) now') from_is' turns')))
     called called'
 units-two pool h k cast first (u ∷ units) zero (suc count') unit unit' between between' from from' before before' now now' call next same there one here up turns called there' other here' up' turns' called' =
-    let is : u ≡ unit = some-same u unit there in
+    let is : u ≡ unit = same_Some u unit there in
     let from_is : from ≡ first = one.1 in
     inr (inr (unit-begins pool k h cast other.0 first other.1.0 unit before now call (sym same) (subst (λ (x : UnitShare). Alone pool k cast first x other.0 other.1.0) is other.1.1.0)
     (ap (λ (c : Cast). slice_get c.users (unit.user - 1)) (sym one.0) ∙ here) (omega (arith, up, from_is)) (subst (λ (n : ℕ). TakesTurns pool h (starting unit before) (numbers_between n (length h)) now) from_is turns) called))
 units-two pool h k cast first (u ∷ units) (suc count) zero unit unit' between between' from from' before before' now now' call next same there one here up turns called there' other here' up' turns' called' =
-    let is : u ≡ unit' = some-same u unit' there' in
+    let is : u ≡ unit' = same_Some u unit' there' in
     let from_is : from' ≡ first = other.1 in
     inr (inl (unit-begins pool h k cast one.0 first one.1.0 unit' before' now' next same (subst (λ (x : UnitShare). Alone pool h cast first x one.0 one.1.0) is one.1.1.0)
     (ap (λ (c : Cast). slice_get c.users (unit'.user - 1)) (sym other.0) ∙ here') (omega (arith, up', from_is)) (subst (λ (n : ℕ). TakesTurns pool k (starting unit' before') (numbers_between n (length k)) now') from_is turns') called'))

@@ -6,6 +6,7 @@ use Rattle.std.specs.Option.{option_or}
 use Rattle.std.proofs.lemmas.Bool.{and_parts, eq-eqb}
 use Rattle.std.proofs.lemmas.List.{length-map}
 use Rattle.std.proofs.lemmas.List.Filters.{length-filter_both}
+use Rattle.std.proofs.lemmas.Option.{same_Some}
 use Rattle.nm_types.specs.Frames.{Frame, size_of_frames}
 use Rattle.nm_types.specs.declared.id.SessionId.{SessionId}
 use Rattle.nm_types.specs.declared.id.LeaseId.{LeaseId}
@@ -32,7 +33,6 @@ use Rattle.vale_own.proofs.Reading.{first-offers, first-leases}
 use Rattle.vale_own.proofs.Sounds.{lots-of_leases}
 use Rattle.vale_replay.specs.FewTurns.{offers_made}
 use Rattle.vale_replay.specs.Machine.{is_settling, settling_call, done_call, grant_call, owed_lot, next_offer}
-use Rattle.vale_replay.proofs.Turns.{some-same}
 
 abbrev pub owed_by : Own → ℕ
 owed_by own = 2 * length own.offers + length own.leases
@@ -65,7 +65,7 @@ found-passes {X} p q (y ∷ xs) x e passes = by (p y) refl e (λ later. found-pa
     by : (b : Bool) → p y ≡ b → cond b (Some y) (find p xs) ≡ Some x
         → (find p xs ≡ Some x → 1 ≤ length (filter q xs)) → 1 ≤ length (cond (q y) (y ∷ filter q xs) (filter q xs))
     by true here is rest =
-        let same : y ≡ x = some-same y x is in
+        let same : y ≡ x = same_Some y x is in
         let mine : q y ≡ true = ap q same ∙ passes (ap p (sym same) ∙ here) in
         subst (λ (b : Bool). 1 ≤ length (cond b (y ∷ filter q xs) (filter q xs))) (sym mine) (omega arith)
     by false here is rest = more (q y) (rest is)

@@ -199,7 +199,7 @@ split-none : (first last : ℕ) → last ≡ first → AreSplit first last []
 split-none first last same =
     split-from first last [] (λ b low high. absurd (omega (arith, low, high, same))) (λ b low. refl) (λ b high. refl)
 
-split-above : (first last : ℕ) (lists : List (List ℕ)) (b : ℕ) → AreSplit first last lists → last < b → times_among b lists ≡ 0
+pub split-above : (first last : ℕ) (lists : List (List ℕ)) (b : ℕ) → AreSplit first last lists → last < b → times_among b lists ≡ 0
 split-above first last lists b split past = by_some (cases_lt 0 (times_among b lists))
   where
     by_some : (0 < times_among b lists) ⊎ (times_among b lists ≤ 0) → times_among b lists ≡ 0

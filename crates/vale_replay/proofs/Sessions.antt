@@ -2,6 +2,7 @@
 use Rattle.std.proofs.Common.{Bool, true, false, cond, ℕ, ◌+◌, ◌-◌, ◌≤◌, ◌≡◌, ◌⊎◌, inl, inr, List, [], ◌∷◌, slice_get, Option, Some, None, is_some, refl, sym, ◌∙◌, ap, subst, arith}
 use Rattle.std.specs.Prelude.{◌==◌}
 use Rattle.std.proofs.lemmas.Bool.{eqb-true, eq-eqb, cases_Bool}
+use Rattle.std.proofs.lemmas.Option.{same_Some}
 use Rattle.nm_types.specs.declared.id.SessionId.{SessionId}
 use Rattle.nm_types.specs.OwnPorts.{Arrival}
 use Rattle.vale_entry.specs.declared.entry.Ask.{Ask}
@@ -13,7 +14,6 @@ use Rattle.vale_entry.proofs.Counting.{count_of, count_of-cons}
 use Rattle.vale_replay.specs.Tasks.{Task, Arrive, Depart}
 use Rattle.vale_replay.specs.Machine.{Machine, call_of_task, after_task, at_rest, resting, answered, with_tasks, is_settling}
 use Rattle.vale_replay.specs.Replay.{UnitShare, TakesTurn, TakesTurns, caller_of, standing_before, starting}
-use Rattle.vale_replay.proofs.Turns.{some-same}
 
 -- What makes no call changes neither.
 
@@ -79,7 +79,7 @@ answer-on n entry came user =
 caller-is : (n : ℕ) (user : Machine) (ask : Ask) (s : SessionId) → caller_of n user ask ≡ Some s
     → (user.session ≡ Some s) ⊎ (s.0 ≡ n)
 caller-is n user (Enter name) s e =
-    let same : record { 0 = n } ≡ s = some-same (record { 0 = n }) s e in
+    let same : record { 0 = n } ≡ s = same_Some (record { 0 = n }) s e in
     inr (ap (λ (x : SessionId). x.0) (sym same))
 caller-is n user _ s e = inl e
 
@@ -111,7 +111,7 @@ own-back n before between ns s on (inr some) = let front = count_of-cons s.0 n n
 own-back n before between ns s (inl same) (inl is) = inl (sym same ∙ is)
 own-back n before between ns s (inr (inl none)) (inl is) = let clash : None ≡ Some s = sym none ∙ is in absurd cc
 own-back n before between ns s (inr (inr new)) (inl is) =
-    let same : record { 0 = n } ≡ s = some-same (record { 0 = n }) s (sym new ∙ is) in
+    let same : record { 0 = n } ≡ s = same_Some (record { 0 = n }) s (sym new ∙ is) in
     own-first before n ns s (ap (λ (x : SessionId). x.0) (sym same))
 
 pub own-after : (pool : ℕ) (h : List Entry) (before : Machine) (ns : List ℕ) (after : Machine) (s : SessionId)
@@ -138,7 +138,7 @@ own-entry_by pool h b n before between ns entry there some turn rest = by_here (
         → IsOwnSession before.session (n ∷ ns) entry.session
     by_here (inl e) =
         let is : n ≡ b = eqb-true n b e in
-        by_caller (some-same turn.entry entry (sym turn.there ∙ ap (λ k. slice_get h (k - 1)) is ∙ there)) (turn-caller pool h before n between turn)
+        by_caller (same_Some turn.entry entry (sym turn.there ∙ ap (λ k. slice_get h (k - 1)) is ∙ there)) (turn-caller pool h before n between turn)
     by_here (inr e) =
         let less : count_of b (n ∷ ns) ≡ 0 + count_of b ns = front ∙ ap (λ (x : Bool). cond x 1 0 + count_of b ns) e in
         own-back n before.session between.session ns entry.session (turn-on pool h before n between turn).session (rest (omega (arith, less, some)))

@@ -6,6 +6,7 @@ use Rattle.std.specs.List.{range_with_len, AllByRecursion}
 use Rattle.std.proofs.lemmas.Bool.{eqb-true, ne_eqb, cases_Bool}
 use Rattle.std.proofs.lemmas.List.{take-take, take_all}
 use Rattle.std.proofs.lemmas.List.Elements.{All-from_recursion}
+use Rattle.std.proofs.lemmas.Option.{same_Some}
 use Rattle.nm_types.specs.declared.id.SessionId.{SessionId}
 use Rattle.nm_types.specs.OwnPorts.{OwnState, empty_own}
 use Rattle.vale_entry.specs.declared.entry.Ask.{Ask}
@@ -15,6 +16,7 @@ use Rattle.vale_entry.specs.Holdings.{buffers_of_session}
 use Rattle.vale_entry.specs.Laws.{Rise}
 use Rattle.vale_entry.specs.Legal.{Standing, standing_of, IsLegal}
 use Rattle.vale_entry.proofs.Counting.{count_of, count_of-cons}
+use Rattle.vale_entry.proofs.Rising.{rise-bounds}
 use Rattle.vale_own.specs.Laws.{IsOfOther}
 use Rattle.vale_own.specs.Side.{buffers_on}
 use Rattle.vale_own.proofs.OwnKept.{legal-split}
@@ -27,12 +29,11 @@ use Rattle.vale_replay.specs.Tasks.{Captures, Task, FinishPort, records_of}
 use Rattle.vale_replay.specs.Machine.{Machine, new_machine, settling_call, call_of_task, call_of_tasks}
 use Rattle.vale_replay.specs.Replay.{Cast, UnitShare, ScriptUnit, TakesTurn, TakesTurns, EachShare, ReplaysShare, ReplaysUnit, ReplaysUnits, AreSplit, NeedsNoCall, HasPlayed, Reaches, IsUnderWay, acts_of, cast_of, closing_unit, has_line, share_of, shares_of, starting, times_among, units_of, user_count, with_afters}
 use Rattle.vale_replay.specs.Owners.{HoldsItsOwn, UsersHoldTheirOwn, times_in}
-use Rattle.vale_replay.proofs.Numbers.{rise-low, rise-above}
-use Rattle.vale_replay.proofs.Turns.{some-same}
+use Rattle.vale_replay.proofs.Numbers.{rise-above}
 use Rattle.vale_replay.proofs.Legal.{played-legal}
 use Rattle.vale_replay.proofs.Sessions.{IsOwnSession, own-back, own-entry, starting-same, turn-on}
 use Rattle.vale_replay.proofs.Members.{AreApart, Member, HasMember, numbers_at, few-one, member, has-member}
-use Rattle.vale_replay.proofs.Joins.{HaveCome, come-next, sessions-apart, split-has, split-in, others-from, units-apart, take-apart, apart-at, first-come}
+use Rattle.vale_replay.proofs.Joins.{HaveCome, come-next, sessions-apart, split-has, split-in, others-from, units-apart, take-apart, apart-at, first-come, or-first}
 use Rattle.vale_replay.proofs.OneState.{narrow, from-first}
 use Rattle.vale_replay.proofs.Owing.{owed_turns, owed-same, settled-owes}
 use Rattle.vale_replay.proofs.TaskSides.{SideOf, ArePaired, AreInOrder, KeepsSide, rest-side, lines-paired, closing-paired}
@@ -107,7 +108,7 @@ turns-along pool h P last on turn from user (n ∷ ns) after rise up foreign kee
     above = rise.0
 
     below : n ≤ last
-    below = rise-low n ns last rise.1
+    below = rise-bounds n ns last rise.1
 
     number : n - 1 + 1 ≡ n
     number = omega (arith, above)
@@ -229,10 +230,6 @@ pub or-second : (x y : Option Ask) → option_or x y ≡ None → y ≡ None
 or-second None y e = e
 or-second (Some a) y e = absurd cc
 
-or-first : (x y : Option Ask) → option_or x y ≡ None → x ≡ None
-or-first None y e = refl
-or-first (Some a) y e = absurd cc
-
 -- the users behind a unit owe nothing
 unit-settled : (pool : ℕ) (h : List Entry) (cast : Cast) (first : ℕ) (unit : ScriptUnit) (lists : List (List ℕ)) (afters : List Machine) (last i : ℕ) (u : Machine)
     → AreApart unit → AllByRecursion IsPairedShare unit → AllByRecursion (NeedsNoCall pool (take last h)) afters → EachShare (ReplaysShare pool h) cast unit lists afters → AreSplit first last lists
@@ -345,7 +342,7 @@ take-all P (suc count) (unit ∷ units) all = (all.0, take-all P count units all
 pub all-at : (P : ScriptUnit → Type 0) (count : ℕ) (units : List ScriptUnit) (unit : ScriptUnit)
     → AllByRecursion P units → slice_get units count ≡ Some unit → P unit
 all-at P count [] unit all at = absurd cc
-all-at P zero (u ∷ units) unit all at = subst P (some-same u unit at) all.0
+all-at P zero (u ∷ units) unit all at = subst P (same_Some u unit at) all.0
 all-at P (suc count) (u ∷ units) unit all at = all-at P count units unit all.1 at
 
 -- at first no user has anything
@@ -354,7 +351,7 @@ new-own : (pool low count i : ℕ) (u : Machine)
     → (u.session ≡ None) × (u.own ≡ empty_own pool)
 new-own pool low zero i u at = absurd cc
 new-own pool low (suc count) zero u at =
-    let is : new_machine pool low ≡ u = some-same (new_machine pool low) u at in
+    let is : new_machine pool low ≡ u = same_Some (new_machine pool low) u at in
     (ap (λ (m : Machine). m.session) (sym is), ap (λ (m : Machine). m.own) (sym is))
 new-own pool low (suc count) (suc i) u at = new-own pool (low + 1) count i u at
 

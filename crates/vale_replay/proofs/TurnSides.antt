@@ -4,6 +4,7 @@ use Rattle.std.specs.Prelude.{◌&&◌, ◌||◌, option_and_then, bytes_eq, sli
 use Rattle.std.specs.Option.{option_or}
 use Rattle.std.specs.List.{list_any, AllByRecursion}
 use Rattle.std.proofs.lemmas.List.{length-take-le}
+use Rattle.std.proofs.lemmas.Option.{same_Some}
 use Rattle.nm_types.specs.declared.fault.SyncFault.{SyncFault}
 use Rattle.nm_types.specs.declared.id.Side.{Side}
 use Rattle.nm_types.specs.declared.id.Side.TheVariants.{Tx, Rx}
@@ -14,6 +15,7 @@ use Rattle.nm_types.specs.Names.{is_pipe_name}
 use Rattle.nm_types.specs.Slots.{pushed_frames}
 use Rattle.nm_types.specs.OwnPorts.{OwnRing, OwnPort, OwnState, empty_own, bytes_at, pushed_in, refusal_in, buffers_in, port_with_name, port_with_id}
 use Rattle.nm_types.specs.OwnEdits.{has_slot}
+use Rattle.nm_types.proofs.Tests.{not_false, both_are}
 use Rattle.vale_entry.specs.declared.entry.Ask.{Ask}
 use Rattle.vale_entry.specs.declared.entry.Ask.TheVariants.{Enter, Open, Send, Sync, Shut, Leave, Put, Get, Watch, Stat}
 use Rattle.vale_entry.specs.declared.entry.Entry.{Entry}
@@ -34,7 +36,6 @@ use Rattle.vale_replay.specs.Machine.{Machine, room_call, put_call, send_call, c
 use Rattle.vale_replay.specs.Replay.{TakesTurn, caller_of, entry_of, entry_made, standing_before}
 use Rattle.vale_replay.proofs.Legal.{made-follows, take-one_more}
 use Rattle.vale_replay.proofs.Enters.{Enters, turn-enters}
-use Rattle.vale_replay.proofs.Turns.{some-same}
 use Rattle.vale_replay.proofs.TaskSides.{SideOf, ArePaired, AreInOrder, KeepsSide, keeps-rest, left-paired, next-paired}
 
 -- Calls, and the ports that they are of.
@@ -49,7 +50,7 @@ pub record TxOf (own : OwnState) (name : List ℕ) (ask : Ask) : Type 0 where
 room-of : (own : OwnState) (p : OwnPort) (r : OwnRing) (b : Bool) (ask : Ask)
     → cond b None (Some (tx_call own p r)) ≡ Some ask → tx_call own p r ≡ ask
 room-of own p r true ask e = absurd cc
-room-of own p r false ask e = some-same (tx_call own p r) ask e
+room-of own p r false ask e = same_Some (tx_call own p r) ask e
 
 put-ring : (own : OwnState) (name : List ℕ) (p : OwnPort) (tx : Option OwnRing) (ask : Ask)
     → port_with_name own name ≡ Some p → p.tx ≡ tx
@@ -66,7 +67,7 @@ send-ring : (own : OwnState) (name : List ℕ) (p : OwnPort) (tx : Option OwnRin
     → port_with_name own name ≡ Some p → p.tx ≡ tx
     → option_map (tx_call own p) tx ≡ Some ask → TxOf own name ask
 send-ring own name p None ask named has e = absurd cc
-send-ring own name p (Some r) ask named has e = record { port = p; named = named; ring = r; has = has; is = some-same (tx_call own p r) ask e }
+send-ring own name p (Some r) ask named has e = record { port = p; named = named; ring = r; has = has; is = same_Some (tx_call own p r) ask e }
 
 pub send-of : (own : OwnState) (name : List ℕ) (found : Option OwnPort) (ask : Ask)
     → port_with_name own name ≡ found → option_and_then (send_call own) found ≡ Some ask → TxOf own name ask
@@ -81,7 +82,7 @@ pub record PortOf (f : OwnPort → Ask) (own : OwnState) (name : List ℕ) (ask 
 pub port-of : (f : OwnPort → Ask) (own : OwnState) (name : List ℕ) (found : Option OwnPort) (ask : Ask)
     → port_with_name own name ≡ found → option_map f found ≡ Some ask → PortOf f own name ask
 port-of f own name None ask named e = absurd cc
-port-of f own name (Some p) ask named e = record { port = p; named = named; is = some-same (f p) ask e }
+port-of f own name (Some p) ask named e = record { port = p; named = named; is = same_Some (f p) ask e }
 
 pub find-each : (P : OwnPort → Type 0) (test : OwnPort → Bool) (ports : List OwnPort) (p : OwnPort)
     → AllByRecursion P ports → find test ports ≡ Some p → P p
@@ -90,7 +91,7 @@ find-each P test (q ∷ ports) p all e = by_test (test q) e (find-each P test po
   where
     by_test : (b : Bool) → cond b (Some q) (find test ports) ≡ Some p
         → (find test ports ≡ Some p → P p) → P p
-    by_test true e' rest = subst P (some-same q p e') all.0
+    by_test true e' rest = subst P (same_Some q p e') all.0
     by_test false e' rest = rest e'
 
 pub by-id : (own : OwnState) (name : List ℕ) (p : OwnPort) → IsSound own
@@ -183,15 +184,6 @@ blank-bytes (suc n) (x ∷ xs) e blank =
     let rest : xs ≡ replicate n [] = blank-bytes n xs (omega (arith, e)) (λ b. blank (suc b)) in
     ap (λ (y : List ℕ). y ∷ xs) first ∙ ap (λ (ys : List (List ℕ)). [] ∷ ys) rest
 
-and-parts : (x y : Bool) → (x && y) ≡ true → (x ≡ true) × (y ≡ true)
-and-parts true true e = (refl, refl)
-and-parts true false e = absurd cc
-and-parts false y e = absurd cc
-
-not-false : (x : Bool) → not x ≡ true → x ≡ false
-not-false true e = absurd cc
-not-false false e = refl
-
 left-empty : (pool : ℕ) (s : Standing) (session : ℕ) (shut : Option ℕ) (own : OwnState)
     → IsSoundSideOf pool session shut (own_of session s) own → can_leave s.world session ≡ true
     → own ≡ empty_own pool
@@ -202,8 +194,8 @@ left-empty pool s session shut own side can =
   where
     none : list_any (is_port_of session) s.world.ports ≡ false
     none =
-        let rest = (and-parts (is_session s.world session) (not (list_any (is_port_of session) s.world.ports) && is_settled s.world session) can).1 in
-        not-false (list_any (is_port_of session) s.world.ports) (and-parts (not (list_any (is_port_of session) s.world.ports)) (is_settled s.world session) rest).0
+        let rest = (both_are (is_session s.world session) (not (list_any (is_port_of session) s.world.ports) && is_settled s.world session) can).1 in
+        not_false (list_any (is_port_of session) s.world.ports) (both_are (not (list_any (is_port_of session) s.world.ports)) (is_settled s.world session) rest).0
 
     ports : own.ports ≡ []
     ports = no-ports session 0 shut own.ports (sym side.of.ports ∙ none-of session s.world.ports none)
@@ -359,7 +351,7 @@ stat-turn pool past user name rest ask made m is side paired call =
 -- a call for which a session is wanted
 with-session : (f : SessionId → Ask) (session : Option SessionId) (x : SessionId) (ask : Ask)
     → session ≡ Some x → option_map f session ≡ Some ask → f x ≡ ask
-with-session f session x ask is e = some-same (f x) ask (ap (option_map f) (sym is) ∙ e)
+with-session f session x ask is e = same_Some (f x) ask (ap (option_map f) (sym is) ∙ e)
 
 -- the turn of a task, by a user that has a session
 task-turn : (pool : ℕ) (past : List Entry) (user : Machine) (shut : Option ℕ) (tasks : List Task) (ask : Ask) (made : Outcome)
@@ -428,7 +420,7 @@ enter-turn : (pool : ℕ) (past : List Entry) (user : Machine) (tasks : List Tas
 enter-turn pool past user [] ask made m is own new paired call = absurd cc
 enter-turn pool past user (Arrive ∷ rest) ask made m is own new paired call =
     let arrives : call_of_task user Arrive ≡ Some (Enter user.number) = rw is refl in
-    enter-side pool past user rest ask made user.number m (some-same (Enter user.number) ask (sym arrives ∙ call)) own new paired
+    enter-side pool past user rest ask made user.number m (same_Some (Enter user.number) ask (sym arrives ∙ call)) own new paired
 enter-turn pool past user (OpenPort name tx rx extra ∷ rest) ask made m is own new paired call = absurd (none-session (λ (session : SessionId). Open session name tx rx extra) user.session ask is call)
 enter-turn pool past user (PutFrame name bytes ∷ rest) ask made m is own new paired call = absurd (none-called (put_call user.own) pool user.own name ask own call)
 enter-turn pool past user (SendFrames name ∷ rest) ask made m is own new paired call = absurd (none-called (send_call user.own) pool user.own name ask own call)
@@ -502,7 +494,7 @@ rx-plain own p =
 mapped-plain : {X : Type 0} (f : X → Ask) (o : Option X) (ask : Ask) → ((x : X) → IsPlain (f x))
     → option_map f o ≡ Some ask → IsPlain ask
 mapped-plain f None ask each e = absurd cc
-mapped-plain f (Some x) ask each e = subst IsPlain (some-same (f x) ask e) (each x)
+mapped-plain f (Some x) ask each e = subst IsPlain (same_Some (f x) ask e) (each x)
 
 pub tasks-plain : (user : Machine) (x : SessionId) (tasks : List Task) (ask : Ask)
     → user.session ≡ Some x → call_of_tasks user tasks ≡ Some ask → IsPlain ask
@@ -541,8 +533,8 @@ session-turn : (pool : ℕ) (past : List Entry) (user : Machine) (keeps : KeepsS
     → IsMade pool past ask made → IsOwn user.session made
     → option_or (option_or (option_map done_call lot) (option_map grant_call offer)) (call_of_tasks user user.tasks) ≡ Some ask
     → KeepsSide pool (standing_next pool past ask made) (answer_of pool past user ask made)
-session-turn pool past user keeps ask made (Some lot) offer m is call = lot-turn pool past user keeps lot ask made m is (some-same (done_call lot) ask call)
-session-turn pool past user keeps ask made None (Some offer) m is call = offer-turn pool past user keeps offer ask made m is (some-same (grant_call offer) ask call)
+session-turn pool past user keeps ask made (Some lot) offer m is call = lot-turn pool past user keeps lot ask made m is (same_Some (done_call lot) ask call)
+session-turn pool past user keeps ask made None (Some offer) m is call = offer-turn pool past user keeps offer ask made m is (same_Some (grant_call offer) ask call)
 session-turn pool past user keeps ask made None None m is call =
     task-answer pool past user ask made (tasks-plain user (record { 0 = made.session }) user.tasks ask is call).settles
     (task-turn pool past user keeps.shut user.tasks ask made m is keeps.side keeps.order call)
@@ -556,8 +548,8 @@ own-caller n user _ s none e = e
 call-plain : (user : Machine) (x : SessionId) (ask : Ask) (lot : Option Lot) (offer : Option Offer)
     → user.session ≡ Some x
     → option_or (option_or (option_map done_call lot) (option_map grant_call offer)) (call_of_tasks user user.tasks) ≡ Some ask → is_enter ask ≡ false
-call-plain user x ask (Some lot) offer is call = ap is_enter (sym (some-same (done_call lot) ask call))
-call-plain user x ask None (Some offer) is call = ap is_enter (sym (some-same (grant_call offer) ask call))
+call-plain user x ask (Some lot) offer is call = ap is_enter (sym (same_Some (done_call lot) ask call))
+call-plain user x ask None (Some offer) is call = ap is_enter (sym (same_Some (grant_call offer) ask call))
 call-plain user x ask None None is call = (tasks-plain user x user.tasks ask is call).enters
 
 none-turn : (pool : ℕ) (past : List Entry) (user : Machine) (keeps : KeepsSide pool (standing_of pool past) user) (ask : Ask) (made : Outcome)
@@ -586,10 +578,10 @@ made-turn pool past user keeps ask made (Some x) m is called caller either =
     let own = own-caller (length past + 1) user ask (record { 0 = made.session }) (call-plain user x ask (owed_lot w x.0) (next_offer w x.0) is call) caller in
     session-turn pool past user keeps ask made (owed_lot w x.0) (next_offer w x.0) m own call
 
-outcome-of : (ask : Ask) (entry : Entry) (made : Option Outcome) → option_map (entry_of ask) made ≡ Some entry
+pub outcome-of : (ask : Ask) (entry : Entry) (made : Option Outcome) → option_map (entry_of ask) made ≡ Some entry
     → (out : Outcome) × (made ≡ Some out) × (entry_of ask out ≡ entry)
 outcome-of ask entry None e = absurd cc
-outcome-of ask entry (Some out) e = (out, refl, some-same (entry_of ask out) entry e)
+outcome-of ask entry (Some out) e = (out, refl, same_Some (entry_of ask out) entry e)
 
 -- the entry of its turn leaves a user with its session's side
 pub answer-side : (pool : ℕ) (h : List Entry) (user : Machine) (n : ℕ) (after : Machine)

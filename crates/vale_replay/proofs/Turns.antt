@@ -2,6 +2,7 @@
 use Rattle.std.proofs.Common.{ℕ, zero, suc, ◌-◌, ◌<◌, ◌≤◌, ◌≡◌, List, [], ◌∷◌, ◌++◌, length, take, slice_get, Some, refl, sym, ◌∙◌, ap, subst, arith}
 use Rattle.std.specs.Prelude.{◌↔◌}
 use Rattle.std.proofs.lemmas.List.{take-take}
+use Rattle.std.proofs.lemmas.Option.{same_Some}
 use Rattle.vale_entry.specs.declared.entry.Ask.{Ask}
 use Rattle.vale_entry.specs.declared.entry.Entry.{Entry}
 use Rattle.vale_entry.specs.Arrivals.{arrivals_of}
@@ -12,16 +13,13 @@ use Rattle.vale_replay.specs.Replay.{TakesTurn, TakesTurns, ReplaysUser, standin
 use Rattle.vale_replay.specs.Laws.{PiecesAreOne, ReadsToItsLast, StatesAreOne, GoBetween}
 use Rattle.vale_replay.proofs.Numbers.{rise-front, rise-back, rise-cut, rise-last, rise-within}
 
-pub some-same : {X : Type 0} (x y : X) → Some x ≡ Some y → x ≡ y
-some-same x y e = cc
-
 -- what a turn's entry is, and where it leads, from what stands before it alone
 pub entry-same : (s : Standing) (m : Machine) (ask other : Ask) (entry entry' : Entry)
     → next_call s.world m ≡ Some ask → next_call s.world m ≡ Some other
     → entry_made s ask ≡ Some entry → entry_made s other ≡ Some entry' → entry ≡ entry'
 entry-same s m ask other entry entry' one two made made' =
-    let asks : ask ≡ other = some-same ask other (sym one ∙ two) in
-    some-same entry entry' (sym made ∙ ap (entry_made s) asks ∙ made')
+    let asks : ask ≡ other = same_Some ask other (sym one ∙ two) in
+    same_Some entry entry' (sym made ∙ ap (entry_made s) asks ∙ made')
 
 pub turn-one : (pool : ℕ) (h : List Entry) (m : Machine) (n : ℕ) (after other : Machine)
     → TakesTurn pool h m n after → TakesTurn pool h m n other → after ≡ other

@@ -1,5 +1,6 @@
 -- A run that nothing hinders is done, or memory was wanting: each other end has a cause that is not there.
 use Rattle.std.proofs.Common.{ℕ, zero, suc, ◌+◌, ◌-◌, ◌<◌, ◌≤◌, ◌≡◌, ◌⊎◌, inl, inr, true, List, [], ◌∷◌, length, map, take, slice_get, string_bytes, Option, Some, None, IsSome, IfSome, IsSomeAnd, Result, Ok, Err, refl, sym, ◌∙◌, ap, subst, arith}
+use Rattle.std.proofs.lemmas.Option.{same_Some}
 use Rattle.std.specs.Str.Lines.{lines}
 use Rattle.nm_io.specs.Files.{Files}
 use Rattle.nm_types.specs.Limits.{most_entries, most_bytes, most_script_bytes, most_capture_bytes}
@@ -32,9 +33,6 @@ use Rattle.vale_run.proofs.Histories.{inputs-named}
 
 -- ---- what a shelf tells of its files
 
-some-one : {X : Type 0} (x y : X) → Some x ≡ Some y → x ≡ y
-some-one x y e = cc
-
 ok-one : (p q : Program) (r : Result Program Fault) → r ≡ Ok p → r ≡ Ok q → p ≡ q
 ok-one p q r one two = cc
 
@@ -43,7 +41,7 @@ none-bad p fault r one two = absurd cc
 
 pub one-content : (files : Option Files) (told : IsSome files) (name a b : List ℕ) → HasContents files name a → HasContents files name b → a ≡ b
 one-content None told name a b one two = absurd cc
-one-content (Some all) told name a b one two = some-one a b (sym one ∙ two)
+one-content (Some all) told name a b one two = same_Some a b (sym one ∙ two)
 
 pub not-longer : (files : Option Files) (told : IsSome files) (name a : List ℕ) (most : ℕ) → HasContents files name a → length a ≤ most
     → IfSome files (λ all. IsSomeAnd (all name) (λ b. most < length b)) → ⊥
@@ -104,7 +102,7 @@ module _ (files : Option Files) (told : IsSome files) where
   read-at [] played before at used size name all some there = absurd cc
   read-at (n ∷ names) [] before at used size name all some there = absurd all
   read-at (n ∷ names) (i ∷ played) [] zero used size name all some there =
-      let same : n ≡ name = some-one n name there in
+      let same : n ≡ name = same_Some n name there in
       let sum = all.2.1.1 in
       record { input = i; more = all.0; is = subst (λ (x : List ℕ). IsInput files x i all.0) same all.2.0; within = omega (arith, sum, some) }
   read-at (n ∷ names) (i ∷ played) (b ∷ before) zero used size name all some there = absurd some

@@ -1,14 +1,13 @@
 -- For a script without blocks one history alone comes to a call for which a record has no room.
-use Rattle.std.proofs.Common.{ℕ, ◌+◌, ◌<◌, ◌≤◌, ◌≡◌, ◌⊎◌, inl, inr, List, [], ◌∷◌, ◌++◌, append-nil, append_assoc, Option, Some, None, option_map, refl, sym, ◌∙◌, ap, subst, arith}
+use Rattle.std.proofs.Common.{ℕ, ◌+◌, ◌≡◌, ◌⊎◌, inl, inr, List, [], ◌∷◌, ◌++◌, append-nil, append_assoc, Option, Some, None, option_map, refl, sym, ◌∙◌, ap, subst, arith}
+use Rattle.std.proofs.lemmas.Option.{same_Some}
+use Rattle.vale_cost.proofs.RoomHistories.{bytes-kept}
 use Rattle.nm_types.specs.declared.fault.Part.{Part}
 use Rattle.nm_types.specs.declared.fault.Part.TheVariants.{Entries, Bytes}
 use Rattle.nm_types.specs.declared.fault.StepFault.TheVariants.{RecordFull}
 use Rattle.nm_types.specs.declared.limits.Limits.{Limits}
 use Rattle.vale_entry.specs.declared.entry.Ask.{Ask}
-use Rattle.vale_entry.specs.declared.entry.Ask.TheVariants.{Put}
 use Rattle.vale_entry.specs.declared.entry.Entry.{Entry}
-use Rattle.vale_entry.specs.declared.entry.Reply.{Reply}
-use Rattle.vale_entry.specs.Room.{bytes_of}
 use Rattle.vale_entry.specs.Legal.{Outcome, entry_of, step, recorded_step, standing_of, kept_ask}
 use Rattle.vale_own.specs.Recorded.{Recorded, standing, HasRoom, HadRoom, HadRoomFrom, IsFullFor, IsRefusal, refused_by, room_by, HasRoomFor}
 use Rattle.vale_own.proofs.Rooms.{step-recorded}
@@ -17,7 +16,6 @@ use Rattle.vale_replay.specs.Tasks.{Captures}
 use Rattle.vale_replay.specs.Laws.{HasNoBlock, BeginsWith}
 use Rattle.vale_replay.specs.Replay.{Replays, ComesTo, entry_made}
 use Rattle.vale_replay.proofs.OneHistory.{under-way, under-way-one}
-use Rattle.vale_replay.proofs.Turns.{some-same}
 
 abbrev pub record_of : ℕ → Limits → ℕ → List Entry → Recorded
 record_of pool limits region entries = record { pool = pool; region = region; limits = limits; entries = entries }
@@ -32,16 +30,12 @@ had-at pool limits region before (first ∷ part) entry rest had =
     subst (λ (es : List Entry). room_by (record_of pool limits region es) entry.ask (recorded_step (standing_of pool es) entry.ask entry.reply)) (append_assoc before (first ∷ []) part)
     (had-at pool limits region (before ++ first ∷ []) part entry rest had.1)
 
-kept-bytes : (ask : Ask) (reply : Reply) → bytes_of (kept_ask ask) reply ≡ bytes_of ask reply
-kept-bytes (Put port offered) reply = refl
-kept-bytes _ reply = refl
-
 -- a call that makes an entry for which there was room is refused by no such record
 full-clash : (pool : ℕ) (limits : Limits) (region other : ℕ) (entries : List Entry) (call : Ask) (made : Outcome) (part : Part) (used want : ℕ)
     → HasRoomFor (record_of pool limits region entries) (kept_ask call) made → IsFullFor (record_of pool limits other entries) call made (RecordFull part used want) → ⊥
 full-clash pool limits region other entries call made Entries used want room full = absurd (omega (arith, full.0, full.1, full.2, room.0))
 full-clash pool limits region other entries call made Bytes used want room full =
-    let same = kept-bytes call made.reply in
+    let same = bytes-kept call made.reply in
     absurd (omega (arith, full.1, full.2, full.3, room.1, same))
 
 goes-clash : (pool : ℕ) (limits : Limits) (region other : ℕ) (whole part : List Entry) (call : Ask) (what : Part) (used want : ℕ)
@@ -55,7 +49,7 @@ goes-clash pool limits region other whole part call what used want had begins re
         → option_map (entry_of call) o ≡ Some begins.entry → ⊥
     by None is refused e = refused
     by (Some made) is refused e =
-        let same : entry_of call made ≡ begins.entry = some-same (entry_of call made) begins.entry e in
+        let same : entry_of call made ≡ begins.entry = same_Some (entry_of call made) begins.entry e in
         let room = had-at pool limits region [] part begins.entry begins.rest begun in
         let here : room_by (record_of pool limits region part) (kept_ask call) (recorded_step (standing_of pool part) (kept_ask call) made.reply) =
         subst (λ (x : Entry). room_by (record_of pool limits region part) x.ask (recorded_step (standing_of pool part) x.ask x.reply)) (sym same) room in

@@ -7,6 +7,7 @@ use Rattle.std.proofs.lemmas.List.Sums.{sum_by-cons, sum_by-append}
 use Rattle.nm_types.specs.OwnPorts.{OwnPort}
 use Rattle.nm_types.specs.declared.limits.TheConstants.Limits.{VERSION_1}
 use Rattle.nm_types.specs.declared.id.Mac.{Mac}
+use Rattle.nm_types.proofs.Lists.{each-joined}
 use Rattle.vale_script.specs.declared.script.Act.{Act}
 use Rattle.vale_script.specs.declared.script.Act.TheVariants.{Put, Tx, Rx}
 use Rattle.vale_script.specs.declared.script.Line.{Line}
@@ -16,6 +17,7 @@ use Rattle.vale_replay.specs.Tasks.{Task, Depart, records_of, tasks_of_line, tas
 use Rattle.vale_replay.specs.Machine.{closing_of}
 use Rattle.vale_replay.specs.Replay.{UnitShare, ScriptUnit, share_of, acts_of, act_of, is_of_user, has_line, shares_of, closing_unit, units_of}
 use Rattle.vale_cost.specs.Completeness.{frames_of_task, calls_of_task, IsPlainTask, IsCosted, frames_of_share, calls_of_share, frames_of_unit, calls_of_unit, frames_of_units, calls_of_units, TasksFit}
+use Rattle.vale_cost.proofs.RoomLines.{closing-costed}
 
 -- ---- lists of tasks, and of units
 
@@ -34,18 +36,13 @@ Cost = CostBy frames_of_task calls_of_task IsPlainTask
 abbrev UnitCost : List ScriptUnit → ℕ → ℕ → Type 0
 UnitCost = CostBy frames_of_unit calls_of_unit (Each IsCosted)
 
-each-append : {X : Type 0} (P : X → Type 0) (xs ys : List X) → Each P xs → Each P ys
-    → Each P (xs ++ ys)
-each-append P [] ys first then = then
-each-append P (x ∷ xs) ys first then = (first.0, each-append P xs ys first.1 then)
-
 cost-append : {X : Type 0} (frames calls : X → ℕ) (P : X → Type 0) (xs ys : List X) (f k g l : ℕ)
     → CostBy frames calls P xs f k → CostBy frames calls P ys g l
     → CostBy frames calls P (xs ++ ys) (f + g) (k + l)
 cost-append frames calls P xs ys f k g l one other = record {
   frames_are = omega (arith, sum_by-append frames xs ys, one.frames_are, other.frames_are);
   calls_are = omega (arith, sum_by-append calls xs ys, one.calls_are, other.calls_are);
-  plain = each-append P xs ys one.plain other.plain;
+  plain = each-joined P xs ys one.plain other.plain;
 }
 
 -- ---- lines
@@ -89,7 +86,7 @@ deeds-append xs ys m n one other =
     let b = other.few in
     record {
       few = omega (arith, all, a, b);
-      light = each-append IsLightDeed xs ys one.light other.light;
+      light = each-joined IsLightDeed xs ys one.light other.light;
     }
 
 deeds-flat : (f : ℕ → List Deed) (each : ℕ) → ((n : ℕ) → Deeds (f n) each) → (ns : List ℕ)
@@ -276,16 +273,6 @@ closing-free (port ∷ ports) =
     cost-append frames_of_task calls_of_task IsPlainTask (closing_of port) (flat_map closing_of ports ++ Depart ∷ []) 0 0 0 0
     (record { frames_are = omega arith; calls_are = omega arith; plain = (tt, (tt, tt)) })
     (closing-free ports)
-
-closing-costed : (user : ℕ) → Each IsCosted (closing_unit user)
-closing-costed user = (
-  record {
-    frames = λ m. (closing-free m.own.ports).frames_are;
-    calls = λ m. (closing-free m.own.ports).calls_are;
-    plain = λ m. (closing-free m.own.ports).plain;
-  },
-  tt,
-)
 
 closings-cost : (us : List ℕ) → UnitCost (map closing_unit us) 0 0
 closings-cost [] = record { frames_are = omega arith; calls_are = omega arith; plain = tt }
