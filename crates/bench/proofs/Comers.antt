@@ -4,6 +4,7 @@ use Rattle.std.specs.Prelude.{not, ◌&&◌}
 use Rattle.std.specs.List.{list_any, AllByRecursion as Each}
 use Rattle.std.proofs.lemmas.Bool.{eq-eqb}
 use Rattle.std.proofs.Math.Nat.{le-max_left, le-max_right}
+use Rattle.nm_types.proofs.Tests.{or_second}
 use Rattle.nm_turn.specs.declared.view.Share.{Share}
 use Rattle.nm_turn.specs.Numbered.{numbered, inserted, merged, values}
 use Rattle.nm_turn.specs.Shares.{whole, half, both_parts, share_of, IsWhole}
@@ -37,10 +38,6 @@ left-inserted n x (y ∷ ys) =
     swapped true false c = refl
     swapped false b c = refl
 
-or-second : (a b : Bool) → b ≡ true → (a || b) ≡ true
-or-second true b e = refl
-or-second false b e = e
-
 or-one : (a b c : Bool) → (a || b) ≡ true → (b ≡ true → c ≡ true) → (a || c) ≡ true
 or-one true b c e more = refl
 or-one false b c e more = more e
@@ -51,7 +48,7 @@ left-first n (x ∷ xs) ys left = left-inserted n x (merged xs ys) ∙ or-one (i
 
 left-second : (n : ℕ) (xs ys : List Made) → has_left (values ys) n ≡ true → has_left (values (merged xs ys)) n ≡ true
 left-second n [] ys left = left
-left-second n (x ∷ xs) ys left = left-inserted n x (merged xs ys) ∙ or-second (is_leaving n x.1) (has_left (values (merged xs ys)) n) (left-second n xs ys left)
+left-second n (x ∷ xs) ys left = left-inserted n x (merged xs ys) ∙ or_second (is_leaving n x.1) (has_left (values (merged xs ys)) n) (left-second n xs ys left)
 
 each-more : (P Q : Made → Type 0) (ms : List Made) → ((m : Made) → P m → Q m) → Each P ms → Each Q ms
 each-more P Q [] more all = tt
@@ -81,7 +78,7 @@ left-front n (x ∷ xs) ys left = or-one (is_leaving n x.1) (has_left (values xs
 
 left-back : (n : ℕ) (xs ys : List Made) → has_left (values ys) n ≡ true → has_left (values (xs ++ ys)) n ≡ true
 left-back n [] ys left = left
-left-back n (x ∷ xs) ys left = or-second (is_leaving n x.1) (has_left (values (xs ++ ys)) n) (left-back n xs ys left)
+left-back n (x ∷ xs) ys left = or_second (is_leaving n x.1) (has_left (values (xs ++ ys)) n) (left-back n xs ys left)
 
 each-joined : (P : Made → Type 0) (xs ys : List Made) → Each P xs → Each P ys → Each P (xs ++ ys)
 each-joined P [] ys first second = second

@@ -4,10 +4,12 @@ use Rattle.std.proofs.lemmas.Bool.{cases_Bool}
 use Rattle.std.proofs.lemmas.Bool.Decides.{nat_tests}
 use Rattle.std.proofs.lemmas.List.{get_or-set_same, get_or-set_other, length-set}
 use Rattle.std.proofs.Math.Seq.{map-set_same}
+use Rattle.std.proofs.lemmas.Option.{same_Some}
 use Rattle.nm_types.specs.declared.place.Place.{Place}
 use Rattle.nm_types.specs.Places.{Held, held_at, is_same_place}
 use Rattle.nm_types.specs.Exchange.{exchanged, swapped}
 use Rattle.nm_types.proofs.Exchanges.{swapped-first, swapped-second, swapped-other, held_at-exchanged}
+use Rattle.nm_types.proofs.Tests.{true_false}
 use Rattle.nm_hold.specs.declared.standing.Home.{Home}
 use Rattle.nm_hold.specs.declared.standing.Standing.{Standing}
 use Rattle.nm_hold.specs.declared.table.PortTable.{PortTable}
@@ -20,10 +22,7 @@ use Rattle.nm_hold.proofs.Steps.{put_number, put_are_tables}
 use Rattle.nm_hold.specs.Holds.{cell_at, places_in, is_named_in}
 use Rattle.nm_hold.specs.Ties.{IsTied}
 use Rattle.nm_hold.proofs.Spots.{nat_eq-is, same_place-is, same_place-refl}
-use Rattle.nm_hold.proofs.Tied.{some_is, number_if, number_if-some, held-number, standing_by_number, within_cells}
-
-true_false : {X : Type 0} → true ≡ false → X
-true_false e = cc
+use Rattle.nm_hold.proofs.Tied.{number_if, number_if-some, held-number, standing_by_number, within_cells}
 
 apart_from : (i j : ℕ) → nat_eq i j ≡ false → i ≢ j
 apart_from i j e f = let same : nat_eq i j ≡ true = grind (arith, nat_tests) in true_false (sym same ∙ e)
@@ -51,7 +50,7 @@ module _ (cells : List (Option Standing)) (tables new : List PortTable) (place :
   moved = slice_set (slice_set cells was (Some moved_there)) idx (Some moved_here)
 
   place_of_s : s.home.place ≡ place
-  place_of_s = let found = standing_by_number cells tables place x.tied x.held in ap (λ (u : Standing). u.home.place) (some_is s found.0 (sym x.here ∙ found.1)) ∙ found.2
+  place_of_s = let found = standing_by_number cells tables place x.tied x.held in ap (λ (u : Standing). u.home.place) (same_Some s found.0 (sym x.here ∙ found.1)) ∙ found.2
 
   number_of_t : number_at tables t.home.place ≡ idx
   number_of_t = (x.tied.standing idx t x.there).number
@@ -99,26 +98,26 @@ module _ (cells : List (Option Standing)) (tables new : List PortTable) (place :
   place_by_was : (q : Place) → number_at tables q ≡ was → place ≡ q
   place_by_was q e =
       let found = standing_by_number cells tables q x.tied (omega (arith, x.held)) in
-      let one : s ≡ found.0 = some_is s found.0 (sym x.here ∙ (ap (cell_at cells) (sym e) ∙ found.1)) in
+      let one : s ≡ found.0 = same_Some s found.0 (sym x.here ∙ (ap (cell_at cells) (sym e) ∙ found.1)) in
       sym place_of_s ∙ (ap (λ (u : Standing). u.home.place) one ∙ found.2)
 
   place_by_idx : (q : Place) → number_at tables q ≡ idx → t.home.place ≡ q
   place_by_idx q e =
       let low = (x.tied.standing idx t x.there).low in
       let found = standing_by_number cells tables q x.tied (omega arith) in
-      let one : t ≡ found.0 = some_is t found.0 (sym x.there ∙ (ap (cell_at cells) (sym e) ∙ found.1)) in
+      let one : t ≡ found.0 = same_Some t found.0 (sym x.there ∙ (ap (cell_at cells) (sym e) ∙ found.1)) in
       ap (λ (u : Standing). u.home.place) one ∙ found.2
 
   pub tied_moved : IsTied moved new
   tied_moved = record {
     standing = λ i u e. elim (cases_Bool (nat_eq i idx)) [
       | inl same ↦ (let at : i ≡ idx = nat_eq-is i idx same in
-          let is : moved_here ≡ u = some_is moved_here u (sym cell_idx ∙ (ap (cell_at moved) (sym at) ∙ e)) in
+          let is : moved_here ≡ u = same_Some moved_here u (sym cell_idx ∙ (ap (cell_at moved) (sym at) ∙ e)) in
           let right = x.tied.standing idx t x.there in
           rw (at, ← is) (record { low = right.low; index = right.index; number = ap (number_at new) place_of_s ∙ number_here }))
       | inr not_idx ↦ elim (cases_Bool (nat_eq i was)) [
         | inl same ↦ (let at : i ≡ was = nat_eq-is i was same in
-            let is : moved_there ≡ u = some_is moved_there u (sym cell_was ∙ (ap (cell_at moved) (sym at) ∙ e)) in
+            let is : moved_there ≡ u = same_Some moved_there u (sym cell_was ∙ (ap (cell_at moved) (sym at) ∙ e)) in
             let right = x.tied.standing was s x.here in
             rw (at, ← is) (record { low = right.low; index = right.index; number = number_there }))
         | inr not_was ↦ (let before : cell_at cells i ≡ Some u = sym (cell_other i (apart_from i idx not_idx) (apart_from i was not_was)) ∙ e in
@@ -270,7 +269,7 @@ done cells tables new place idx was s t two first second all tied number s_there
     let some : 0 < number_at tables place = omega (arith, number, low) in
     let between : Standing = record { home = first; buf = s.buf } in
     let still : cell_at (slice_set cells was (Some between)) idx ≡ Some t = get_or-set_other cells was idx (Some between) None other ∙ t_there in
-    let is_t : two ≡ t = some_is two t (sym read ∙ still) in
+    let is_t : two ≡ t = same_Some two t (sym read ∙ still) in
     let made = exchange_made cells tables place idx s t all tied some (ap (cell_at cells) (sym number) ∙ s_there) t_there (λ e. other (e ∙ sym number)) in
     let both = put_both place idx t.home.place (number_at tables place) tables in
     let same : new ≡ both = are ∙ ap (λ (n : ℕ). map (put_in t.home.place n) (map (put_in place idx) tables)) number in

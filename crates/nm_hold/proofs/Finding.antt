@@ -1,13 +1,15 @@
 -- The table of a port, found in its row.
-use Rattle.std.proofs.Common.{ℕ, zero, suc, ◌≡◌, ◌≢◌, ◌<◌, ◌≤◌, Bool, true, false, nat_eq, if◌then◌else◌, List, [], ◌∷◌, ◌++◌, length, map, find, get_or, slice_set, Option, Some, None, inl, inr, refl, sym, ◌∙◌, ap, subst, arith}
-use Rattle.std.specs.Prelude.{◌||◌, All, IfSome, option_map, is_some}
+use Rattle.std.proofs.Common.{ℕ, zero, suc, ◌≡◌, ◌≢◌, ◌<◌, ◌≤◌, true, false, nat_eq, if◌then◌else◌, List, [], ◌∷◌, ◌++◌, length, map, find, get_or, slice_set, Option, Some, None, inl, inr, refl, sym, ◌∙◌, ap, subst, arith}
+use Rattle.std.specs.Prelude.{All, IfSome, option_map, is_some}
 use Rattle.std.specs.List.{AllByRecursion}
 use Rattle.std.specs.Option.{option_map_or}
 use Rattle.std.proofs.lemmas.Bool.{cases_Bool}
 use Rattle.std.proofs.lemmas.Bool.Decides.{nat_tests}
 use Rattle.std.proofs.lemmas.List.{get_or_read, get_or-set_same, get_or-set_other, set-set}
 use Rattle.std.proofs.lemmas.List.Elements.{recursion_from_All}
+use Rattle.std.proofs.lemmas.Option.{same_Some}
 use Rattle.nm_types.specs.declared.place.Place.{Place}
+use Rattle.nm_types.proofs.Tests.{turned, same_true, or_second, true_false}
 use Rattle.nm_hold.specs.declared.table.PortTable.{PortTable}
 use Rattle.nm_hold.specs.Offsets.{offset_of, has_place, has_port, ArePortsOnce}
 use Rattle.nm_hold.specs.Holds.{port_of}
@@ -16,27 +18,14 @@ use Rattle.nm_hold.specs.Indexed.{tables_present, row_at, port_in, port_at, numb
 use Rattle.nm_hold.proofs.Spots.{nat_eq-is, offset-port}
 use Rattle.nm_hold.proofs.Numbers.{without}
 
-true_false : {X : Type 0} → true ≡ false → X
-true_false e = cc
-
 none_some : {X : Type 0} (n : ℕ) → None ≡ Some n → X
 none_some n e = cc
-
-some_is : (a b : ℕ) → Some a ≡ Some b → a ≡ b
-some_is a b e = cc
-
-nat_eq-same : (a b : ℕ) → a ≡ b → nat_eq a b ≡ true
-nat_eq-same a b e = grind (arith, nat_tests)
 
 nat_eq-differs : (a b : ℕ) → a ≢ b → nat_eq a b ≡ false
 nat_eq-differs a b e = grind (arith, nat_tests)
 
 apart_from : (a b : ℕ) → nat_eq a b ≡ false → a ≢ b
-apart_from a b e f = true_false (sym (nat_eq-same a b f) ∙ e)
-
-or_true : (a b : Bool) → b ≡ true → (a || b) ≡ true
-or_true true b e = refl
-or_true false b e = e
+apart_from a b e f = true_false (sym (same_true a b f) ∙ e)
 
 -- what is read at a row
 pub row_read : (rows : List (Option PortTable)) (at : ℕ) (row : Option PortTable) → at < length rows → row ≡ get_or rows at row → row ≡ row_at rows at
@@ -55,7 +44,7 @@ pub row_within : (rows : List (Option PortTable)) (index : ℕ → Option ℕ) (
 row_within rows index at port is found = within_rows rows at port (is.there at port found)
 
 pub apart-indexed : (rows : List (Option PortTable)) (index : ℕ → Option ℕ) → IsIndexed rows index → AreApart rows
-apart-indexed rows index is at other port e f = some_is at other (sym (is.found at port e) ∙ is.found other port f)
+apart-indexed rows index is at other port e f = same_Some at other (sym (is.found at port e) ∙ is.found other port f)
 
 tail_apart : (s : Option PortTable) (rows : List (Option PortTable)) → AreApart (s ∷ rows) → AreApart rows
 tail_apart s rows apart at other port e f = let next : suc at ≡ suc other = apart (suc at) (suc other) port e f in omega (arith, next)
@@ -65,8 +54,8 @@ pub port-there : (rows : List (Option PortTable)) (at port : ℕ) → port_at ro
 port-there [] at port e = none_some port e
 port-there (None ∷ rows) zero port e = none_some port e
 port-there (None ∷ rows) (suc at) port e = port-there rows at port e
-port-there (Some t ∷ rows) zero port e = rw (nat_eq-same t.places.port.0 port (some_is t.places.port.0 port e)) refl
-port-there (Some t ∷ rows) (suc at) port e = or_true (nat_eq t.places.port.0 port) (has_port (ports_of (tables_present rows)) port) (port-there rows at port e)
+port-there (Some t ∷ rows) zero port e = rw (same_true t.places.port.0 port (same_Some t.places.port.0 port e)) refl
+port-there (Some t ∷ rows) (suc at) port e = or_second (nat_eq t.places.port.0 port) (has_port (ports_of (tables_present rows)) port) (port-there rows at port e)
 
 pub row-there : (rows : List (Option PortTable)) (port : ℕ) → has_port (ports_of (tables_present rows)) port ≡ true → (at : ℕ) × (port_at rows at ≡ Some port)
 row-there [] port has = cc
@@ -94,10 +83,10 @@ apart-once (None ∷ rows) once (suc at) zero port e f = none_some port f
 apart-once (None ∷ rows) once (suc at) (suc other) port e f = ap suc (apart-once rows once at other port e f)
 apart-once (Some t ∷ rows) once zero zero port e f = refl
 apart-once (Some t ∷ rows) once zero (suc other) port e f =
-    let same : t.places.port.0 ≡ port = some_is t.places.port.0 port e in
+    let same : t.places.port.0 ≡ port = same_Some t.places.port.0 port e in
     true_false (sym (port-there rows other port f) ∙ (ap (has_port (ports_of (tables_present rows))) (sym same) ∙ once.0))
 apart-once (Some t ∷ rows) once (suc at) zero port e f =
-    let same : t.places.port.0 ≡ port = some_is t.places.port.0 port f in
+    let same : t.places.port.0 ≡ port = same_Some t.places.port.0 port f in
     true_false (sym (port-there rows at port e) ∙ (ap (has_port (ports_of (tables_present rows))) (sym same) ∙ once.0))
 apart-once (Some t ∷ rows) once (suc at) (suc other) port e f = ap suc (apart-once rows once.1 at other port e f)
 
@@ -117,7 +106,7 @@ pub find-row : (rows : List (Option PortTable)) (at port : ℕ) → AreApart row
 find-row [] at port apart e = none_some port e
 find-row (None ∷ rows) zero port apart e = none_some port e
 find-row (None ∷ rows) (suc at) port apart e = find-row rows at port (tail_apart None rows apart) e
-find-row (Some t ∷ rows) zero port apart e = rw (nat_eq-same t.places.port.0 port (some_is t.places.port.0 port e)) refl
+find-row (Some t ∷ rows) zero port apart e = rw (same_true t.places.port.0 port (same_Some t.places.port.0 port e)) refl
 find-row (Some t ∷ rows) (suc at) port apart e =
     let differ : t.places.port.0 ≢ port = (λ (same : t.places.port.0 ≡ port). let first : 0 ≡ suc at = apart 0 (suc at) port (ap (λ (n : ℕ). Some n) same) e in absurd (omega (arith, first))) in
     rw (nat_eq-differs t.places.port.0 port differ) (find-row rows at port (tail_apart (Some t) rows apart) e)
@@ -142,7 +131,7 @@ number-absent (t ∷ tables) place none = by_offset (offset_of t.places place) r
   where
     by_offset : (o : Option ℕ) → offset_of t.places place ≡ o → (has_port (ports_of tables) (port_of place) ≡ false → number_at tables place ≡ 0) → number_at (t ∷ tables) place ≡ 0
     by_offset (Some at) e rest =
-        let same : nat_eq t.places.port.0 (port_of place) ≡ true = nat_eq-same t.places.port.0 (port_of place) (sym (offset-port t.places place at e)) in
+        let same : nat_eq t.places.port.0 (port_of place) ≡ true = same_true t.places.port.0 (port_of place) (sym (offset-port t.places place at e)) in
         true_false (sym (rw same refl) ∙ none)
     by_offset None e rest = elim (cases_Bool (nat_eq t.places.port.0 (port_of place))) [
       | inl same ↦ true_false (sym (rw same refl) ∙ none)
@@ -157,7 +146,7 @@ number-found (t ∷ tables) place once = by_offset (offset_of t.places place) re
     by_offset : (o : Option ℕ) → offset_of t.places place ≡ o → number_at tables place ≡ option_map_or (λ (t : PortTable). number_in t place) (find (λ (t : PortTable). nat_eq t.places.port.0 (port_of place)) tables) 0
         → number_at (t ∷ tables) place ≡ option_map_or (λ (t : PortTable). number_in t place) (find (λ (t : PortTable). nat_eq t.places.port.0 (port_of place)) (t ∷ tables)) 0
     by_offset (Some at) e rest =
-        let same : nat_eq t.places.port.0 (port_of place) ≡ true = nat_eq-same t.places.port.0 (port_of place) (sym (offset-port t.places place at e)) in
+        let same : nat_eq t.places.port.0 (port_of place) ≡ true = same_true t.places.port.0 (port_of place) (sym (offset-port t.places place at e)) in
         rw (same, e) refl
     by_offset None e rest = elim (cases_Bool (nat_eq t.places.port.0 (port_of place))) [
       | inl same ↦ (let none : has_port (ports_of tables) (port_of place) ≡ false = ap (has_port (ports_of tables)) (sym (nat_eq-is t.places.port.0 (port_of place) same)) ∙ once.0 in
@@ -199,7 +188,7 @@ put-row (None ∷ rows) zero place number apart e = none_some (port_of place) e
 put-row (None ∷ rows) (suc at) place number apart e = put-row rows at place number (tail_apart None rows apart) e
 put-row (Some t ∷ rows) zero place number apart e =
     let once = once-apart (Some t ∷ rows) apart in
-    let same : t.places.port.0 ≡ port_of place = some_is t.places.port.0 (port_of place) e in
+    let same : t.places.port.0 ≡ port_of place = same_Some t.places.port.0 (port_of place) e in
     let none : has_port (ports_of (tables_present rows)) (port_of place) ≡ false = ap (has_port (ports_of (tables_present rows))) (sym same) ∙ once.0 in
     ap (λ (ts : List PortTable). put_in place number t ∷ ts) (put-absent rows place number none)
 put-row (Some t ∷ rows) (suc at) place number apart e =
@@ -273,8 +262,8 @@ place-port [] place has = true_false (sym has)
 place-port (t ∷ tables) place has = by_offset (offset_of t.places place) refl (place-port tables place)
   where
     by_offset : (o : Option ℕ) → offset_of t.places place ≡ o → (has_place (ports_of tables) place ≡ true → has_port (ports_of tables) (port_of place) ≡ true) → has_port (ports_of (t ∷ tables)) (port_of place) ≡ true
-    by_offset (Some at) e rest = rw (nat_eq-same t.places.port.0 (port_of place) (sym (offset-port t.places place at e))) refl
-    by_offset None e rest = or_true (nat_eq t.places.port.0 (port_of place)) (has_port (ports_of tables) (port_of place)) (rest (rw e at has))
+    by_offset (Some at) e rest = rw (same_true t.places.port.0 (port_of place) (sym (offset-port t.places place at e))) refl
+    by_offset None e rest = or_second (nat_eq t.places.port.0 (port_of place)) (has_port (ports_of tables) (port_of place)) (rest (rw e at has))
 
 pub place-row : (rows : List (Option PortTable)) (at : ℕ) (place : Place) → AreApart rows → port_at rows at ≡ Some (port_of place) → has_place (ports_of (tables_present rows)) place ≡ true
     → IfSome (row_at rows at) (λ (t : PortTable). is_some (offset_of t.places place) ≡ true)
@@ -284,7 +273,7 @@ place-row (None ∷ rows) (suc at) place apart e has = place-row rows at place (
 place-row (Some t ∷ rows) zero place apart e has = elim (cases_Bool (is_some (offset_of t.places place))) [
   | inl here ↦ here
   | inr absent ↦ (let once = once-apart (Some t ∷ rows) apart in
-      let same : t.places.port.0 ≡ port_of place = some_is t.places.port.0 (port_of place) e in
+      let same : t.places.port.0 ≡ port_of place = same_Some t.places.port.0 (port_of place) e in
       let rest : has_place (ports_of (tables_present rows)) place ≡ true = rw absent at has in
       true_false (sym (place-port (tables_present rows) place rest) ∙ (ap (has_port (ports_of (tables_present rows))) (sym same) ∙ once.0)))
 ]
@@ -307,15 +296,15 @@ pub indexed-push : (rows : List (Option PortTable)) (t : PortTable) (index new :
 indexed-push rows t index new is none put = record {
   found = λ at port e. elim (cases_Bool (nat_eq at (length rows))) [
     | inl last ↦ (let here = nat_eq-is at (length rows) last in
-        let port_is : t.places.port.0 ≡ port = some_is t.places.port.0 port (sym (at_last rows) ∙ (ap (port_at (rows ++ Some t ∷ [])) (sym here) ∙ e)) in
-        let same = nat_eq-same t.places.port.0 port port_is in
+        let port_is : t.places.port.0 ≡ port = same_Some t.places.port.0 port (sym (at_last rows) ∙ (ap (port_at (rows ++ Some t ∷ [])) (sym here) ∙ e)) in
+        let same = same_true t.places.port.0 port port_is in
         rw (put port, same, here) refl)
     | inr other ↦ (let before : port_at rows at ≡ Some port = sym (elsewhere rows at (apart_from at (length rows) other)) ∙ e in
         let differ : t.places.port.0 ≢ port = (λ (same : t.places.port.0 ≡ port). true_false (sym (port-there rows at port before) ∙ (ap (has_port (ports_of (tables_present rows))) (sym same) ∙ none))) in
         rw (put port, nat_eq-differs t.places.port.0 port differ) (is.found at port before))
   ];
   there = λ at port e. elim (cases_Bool (nat_eq t.places.port.0 port)) [
-    | inl same ↦ (let here : length rows ≡ at = some_is (length rows) at (sym (rw same at (put port)) ∙ e) in
+    | inl same ↦ (let here : length rows ≡ at = same_Some (length rows) at (sym (rw same at (put port)) ∙ e) in
         rw (← here) (at_last rows ∙ ap (λ (n : ℕ). Some n) (nat_eq-is t.places.port.0 port same)))
     | inr differs ↦ (let before : port_at rows at ≡ Some port = is.there at port (sym (rw differs at (put port)) ∙ e) in
         let within = within_rows rows at port before in
@@ -350,9 +339,9 @@ without-row (None ∷ rows) zero port apart e = none_some port e
 without-row (None ∷ rows) (suc at) port apart e = without-row rows at port (tail_apart None rows apart) e
 without-row (Some t ∷ rows) zero port apart e =
     let once = once-apart (Some t ∷ rows) apart in
-    let same : t.places.port.0 ≡ port = some_is t.places.port.0 port e in
+    let same : t.places.port.0 ≡ port = same_Some t.places.port.0 port e in
     let none : has_port (ports_of (tables_present rows)) port ≡ false = ap (has_port (ports_of (tables_present rows))) (sym same) ∙ once.0 in
-    rw (nat_eq-same t.places.port.0 port same) (sym (without-absent rows port none))
+    rw (same_true t.places.port.0 port same) (sym (without-absent rows port none))
 without-row (Some t ∷ rows) (suc at) port apart e =
     let differ : t.places.port.0 ≢ port = (λ (same : t.places.port.0 ≡ port). let first : 0 ≡ suc at = apart 0 (suc at) port (ap (λ (n : ℕ). Some n) same) e in absurd (omega (arith, first))) in
     rw (nat_eq-differs t.places.port.0 port differ) (ap (λ (ts : List PortTable). t ∷ ts) (without-row rows at port (tail_apart (Some t) rows apart) e))
@@ -365,14 +354,14 @@ indexed-without rows at port index new is there gone = record {
         none_some other (sym (ap port_in (get_or-set_same rows at None None (within_rows rows at port (is.there at port there)))) ∙ here))
     | inr differs ↦ (let before : port_at rows k ≡ Some other = sym (ap port_in (get_or-set_other rows at k None None (apart_from k at differs))) ∙ e in
         let index_is = is.found k other before in
-        let differ : port ≢ other = (λ (same : port ≡ other). apart_from k at differs (some_is k at (sym index_is ∙ (ap index (sym same) ∙ there)))) in
+        let differ : port ≢ other = (λ (same : port ≡ other). apart_from k at differs (same_Some k at (sym index_is ∙ (ap index (sym same) ∙ there)))) in
         rw (gone other, nat_eq-differs port other differ) index_is)
   ];
   there = λ k other e. elim (cases_Bool (nat_eq port other)) [
     | inl same ↦ none_some k (sym (rw same at (gone other)) ∙ e)
     | inr differs ↦ (let index_is : index other ≡ Some k = sym (rw differs at (gone other)) ∙ e in
         let before = is.there k other index_is in
-        let differ : k ≢ at = (λ (same : k ≡ at). apart_from port other differs (some_is port other (sym (is.there at port there) ∙ (ap (port_at rows) (sym same) ∙ before)))) in
+        let differ : k ≢ at = (λ (same : k ≡ at). apart_from port other differs (same_Some port other (sym (is.there at port there) ∙ (ap (port_at rows) (sym same) ∙ before)))) in
         ap port_in (get_or-set_other rows at k None None differ) ∙ before)
   ];
 }
@@ -388,12 +377,9 @@ apart_from_it (u ∷ tables) t rest port none = elim (cases_Bool (nat_eq u.place
   | inr differs ↦ apart_from_it tables t rest port (rw differs at none)
 ]
 
-flipped : (a b : ℕ) → nat_eq a b ≡ false → nat_eq b a ≡ false
-flipped a b e = grind (arith, nat_tests)
-
 table_is_new : (tables : List PortTable) (t : PortTable) (rest : List PortTable) → ArePortsOnce (ports_of (tables ++ t ∷ rest)) → has_port (ports_of tables) t.places.port.0 ≡ false
 table_is_new [] t rest once = refl
-table_is_new (u ∷ tables) t rest once = rw (flipped t.places.port.0 u.places.port.0 (apart_from_it tables t rest u.places.port.0 once.0)) (table_is_new tables t rest once.1)
+table_is_new (u ∷ tables) t rest once = rw (turned t.places.port.0 u.places.port.0 (apart_from_it tables t rest u.places.port.0 once.0)) (table_is_new tables t rest once.1)
 
 pub row_is_new : (tables : List PortTable) (row : Option PortTable) (rest : List (Option PortTable)) (all : List PortTable) → tables ++ tables_present (row ∷ rest) ≡ all → ArePortsOnce (ports_of all)
     → IfSome row (λ t. has_port (ports_of tables) t.places.port.0 ≡ false)

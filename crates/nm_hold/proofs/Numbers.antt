@@ -7,6 +7,7 @@ use Rattle.std.proofs.lemmas.Bool.Decides.{nat_tests}
 use Rattle.std.proofs.lemmas.List.{length-set, get_or-set_same, get_or-set_other, get_or-replicate}
 use Rattle.nm_types.specs.declared.place.Place.{Place}
 use Rattle.nm_types.specs.Places.{is_same_place}
+use Rattle.nm_types.proofs.Tests.{true_false}
 use Rattle.nm_hold.specs.declared.table.PortPlaces.{PortPlaces}
 use Rattle.nm_hold.specs.declared.table.PortTable.{PortTable}
 use Rattle.nm_hold.specs.Offsets.{count_of, offset_of, has_place}
@@ -14,9 +15,6 @@ use Rattle.nm_hold.specs.Tables.{IsTable, ports_of, number_at, put_in}
 use Rattle.nm_hold.specs.Holds.{port_of}
 use Rattle.nm_hold.specs.Ties.{IsBlank}
 use Rattle.nm_hold.proofs.Spots.{nat_eq-is, same_place-is, offset-within, offset-port, offset-same}
-
-true_false : {X : Type 0} → true ≡ false → X
-true_false e = cc
 
 pub places-put_in : (place : Place) (number : ℕ) (t : PortTable) (o : Option ℕ) → offset_of t.places place ≡ o → (put_in place number t).places ≡ t.places
 places-put_in place number t None e = rw e refl

@@ -24,9 +24,6 @@ use Rattle.nm_hold.specs.Renames.{cell_named_in, tx_slots, cells_named, cells_re
 use Rattle.nm_hold.proofs.Spots.{same_place-is, same_place-refl}
 use Rattle.nm_hold.proofs.Tied.{standing_by_number}
 
-true_false : {X : Type 0} → true ≡ false → X
-true_false e = cc
-
 -- one slot more
 pub slots_more : {X : Type 0} (f : ℕ → X) (size first k : ℕ) → map f (slots_from size first (k + 1)) ≡ map f (slots_from size first k) ++ f (step_on size first k) ∷ []
 slots_more f size first k = ap (map f) (map-range_with_len_more (step_on size first) 0 k k (omega arith)) ∙ map-append f (slots_from size first k) (step_on size first k ∷ [])

@@ -3,7 +3,7 @@ use Rattle.std.proofs.Common.{Bool, filter, not, ℕ, zero, suc, ◌≡◌, ◌<
 use Rattle.std.specs.Prelude.{All, ◌||◌, is_some, IsSome, option_map}
 use Rattle.std.specs.List.{AllByRecursion}
 use Rattle.std.specs.Option.{option_map_or}
-use Rattle.std.proofs.lemmas.Bool.{cases_Bool}
+use Rattle.std.proofs.lemmas.Bool.{cases_Bool, or_parts}
 use Rattle.std.proofs.lemmas.List.Elements.{All-from_recursion, recursion_from_All}
 use Rattle.std.proofs.lemmas.Bool.Decides.{nat_tests}
 use Rattle.nm_types.specs.declared.id.PortId.{PortId}
@@ -11,6 +11,7 @@ use Rattle.nm_types.specs.declared.place.Place.TheVariants.{Extra}
 use Rattle.nm_hold.proofs.Spots.{nat_eq-is, extra_stands}
 use Rattle.nm_types.specs.declared.place.Place.{Place}
 use Rattle.nm_types.specs.Places.{held_at}
+use Rattle.nm_types.proofs.Tests.{false_true, or_second, or_first}
 use Rattle.nm_hold.specs.declared.standing.Standing.{Standing}
 use Rattle.nm_hold.specs.declared.table.PortPlaces.{PortPlaces}
 use Rattle.nm_hold.specs.declared.table.PortTable.{PortTable}
@@ -97,10 +98,6 @@ pub named_stands : (cell : Option Standing) → is_named_in cell ≡ true → (s
 named_stands None e = cc
 named_stands (Some s) e = (s, refl)
 
-or_false : (a b : Bool) → (a || b) ≡ false → (a ≡ false) × (b ≡ false)
-or_false true b e = cc
-or_false false b e = (refl, e)
-
 both_false : (a b : Bool) → a ≡ false → b ≡ false → (a || b) ≡ false
 both_false a b e f = rw (e, f) refl
 
@@ -108,14 +105,14 @@ both_false a b e f = rw (e, f) refl
 pub once-push : (ports : List PortPlaces) (new : PortPlaces) → ArePortsOnce ports → has_port ports new.port.0 ≡ false → ArePortsOnce (ports ++ new ∷ [])
 once-push [] new once apart = (refl, tt)
 once-push (p ∷ ports) new once apart =
-    let both = or_false (nat_eq p.port.0 new.port.0) (has_port ports new.port.0) apart in
+    let both = or_parts (nat_eq p.port.0 new.port.0) (has_port ports new.port.0) apart in
     let flipped : nat_eq new.port.0 p.port.0 ≡ false = grind (arith, nat_tests, both.0) in
     (has_port-push ports new p.port.0 once.0 flipped, once-push ports new once.1 both.1)
   where
     has_port-push : (ports : List PortPlaces) (new : PortPlaces) (port : ℕ) → has_port ports port ≡ false → nat_eq new.port.0 port ≡ false → has_port (ports ++ new ∷ []) port ≡ false
     has_port-push [] new port none apart = both_false (nat_eq new.port.0 port) false apart refl
     has_port-push (q ∷ ports) new port none apart =
-        let both = or_false (nat_eq q.port.0 port) (has_port ports port) none in
+        let both = or_parts (nat_eq q.port.0 port) (has_port ports port) none in
         both_false (nat_eq q.port.0 port) (has_port (ports ++ new ∷ []) port) both.0 (has_port-push ports new port both.1 apart)
 
 pub once-without : (port : ℕ) (ports : List PortPlaces) → ArePortsOnce ports → ArePortsOnce (filter (λ (p : PortPlaces). not (nat_eq p.port.0 port)) ports)
@@ -128,31 +125,21 @@ once-without port (p ∷ ports) once = elim (cases_Bool (nat_eq p.port.0 port)) 
     none_in : (ports : List PortPlaces) (other : ℕ) → has_port ports other ≡ false → has_port (filter (λ (p : PortPlaces). not (nat_eq p.port.0 port)) ports) other ≡ false
     none_in [] other none = refl
     none_in (q ∷ ports) other none =
-        let both = or_false (nat_eq q.port.0 other) (has_port ports other) none in
+        let both = or_parts (nat_eq q.port.0 other) (has_port ports other) none in
         elim (cases_Bool (nat_eq q.port.0 port)) [
           | inl same ↦ rw same (none_in ports other both.1)
           | inr differs ↦ rw differs (both_false (nat_eq q.port.0 other) (has_port (filter (λ (p : PortPlaces). not (nat_eq p.port.0 port)) ports) other) both.0 (none_in ports other both.1))
         ]
-
-false_true : {X : Type 0} → false ≡ true → X
-false_true e = cc
-
-true_or : (a b : Bool) → a ≡ true → (a || b) ≡ true
-true_or a b e = rw e refl
-
-or_true : (a b : Bool) → b ≡ true → (a || b) ≡ true
-or_true true b e = refl
-or_true false b e = e
 
 has_port-from_place : (ports : List PortPlaces) (port : PortId) (at : ℕ) → has_place ports (Extra port at) ≡ true → has_port ports port.0 ≡ true
 has_port-from_place [] port at has = has
 has_port-from_place (p ∷ ports) port at has = by_offset (offset_of p (Extra port at)) refl (has_port-from_place ports port at)
   where
     by_offset : (o : Option ℕ) → offset_of p (Extra port at) ≡ o → (has_place ports (Extra port at) ≡ true → has_port ports port.0 ≡ true) → has_port (p ∷ ports) port.0 ≡ true
-    by_offset None e rest = or_true (nat_eq p.port.0 port.0) (has_port ports port.0) (rest (rw e at has))
+    by_offset None e rest = or_second (nat_eq p.port.0 port.0) (has_port ports port.0) (rest (rw e at has))
     by_offset (Some spot) e rest =
         let s = extra_stands p port at spot e in
-        true_or (nat_eq p.port.0 port.0) (has_port ports port.0) (grind (arith, nat_tests, s.same))
+        or_first (nat_eq p.port.0 port.0) (has_port ports port.0) (grind (arith, nat_tests, s.same))
 
 -- an extra position is below the number of them
 pub extra_within : (ports : List PortPlaces) (port : PortId) (at : ℕ) → ArePortsOnce ports → has_place ports (Extra port at) ≡ true → at < extra_of ports port.0

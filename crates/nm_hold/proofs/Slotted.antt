@@ -5,7 +5,7 @@ use Rattle.std.specs.Option.{option_map_or}
 use Rattle.std.proofs.lemmas.Bool.{cases_Bool}
 use Rattle.std.proofs.lemmas.Bool.Decides.{nat_tests}
 use Rattle.std.proofs.lemmas.List.{get_or-take, get_or-drop, length-take, get_or_past}
-use Rattle.std.proofs.lemmas.Option.{get_or_from_slice_get, slice_get_within}
+use Rattle.std.proofs.lemmas.Option.{get_or_from_slice_get, slice_get_within, same_Some}
 use Rattle.nm_types.specs.declared.id.PortId.{PortId}
 use Rattle.nm_types.specs.declared.id.Side.{Side}
 use Rattle.nm_types.specs.declared.id.Side.TheVariants.{Tx, Rx}
@@ -19,7 +19,7 @@ use Rattle.nm_hold.specs.Ties.{IsTied}
 use Rattle.nm_hold.proofs.Spots.{nat_eq-is}
 use Rattle.nm_hold.proofs.Finding.{number-found}
 use Rattle.nm_hold.proofs.Shown.{find-places}
-use Rattle.nm_hold.proofs.Tied.{number_if, held-number, some_is}
+use Rattle.nm_hold.proofs.Tied.{number_if, held-number}
 
 -- what is read of a part of a list
 read_within : (xs : List ℕ) (a b at idx : ℕ) → slice_get (slice_range xs a b) at ≡ Some idx → (at < b - a) × (get_or xs (a + at) 0 ≡ idx)
@@ -49,7 +49,7 @@ number_in_slots t Rx at idx e =
 found_port : (tables : List PortTable) (port : ℕ) (t : PortTable) → find (λ (t : PortTable). nat_eq t.places.port.0 port) tables ≡ Some t → t.places.port.0 ≡ port
 found_port [] port t e = cc
 found_port (u ∷ tables) port t e = elim (cases_Bool (nat_eq u.places.port.0 port)) [
-  | inl same ↦ (let there : u ≡ t = some_is u t (rw same at e) in rw (← there) (nat_eq-is u.places.port.0 port same))
+  | inl same ↦ (let there : u ≡ t = same_Some u t (rw same at e) in rw (← there) (nat_eq-is u.places.port.0 port same))
   | inr differs ↦ found_port tables port t (rw differs at e)
 ]
 

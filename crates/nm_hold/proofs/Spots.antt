@@ -5,6 +5,7 @@ use Rattle.nm_types.specs.declared.id.PortId.{PortId}
 use Rattle.nm_types.specs.declared.place.Place.{Place}
 use Rattle.nm_types.specs.declared.place.Place.TheVariants.{Tx, Rx, Extra}
 use Rattle.nm_types.specs.Places.{is_same_place}
+use Rattle.nm_types.proofs.Tests.{both_are, both_true, less_is}
 use Rattle.nm_hold.specs.declared.table.PortPlaces.{PortPlaces}
 use Rattle.nm_hold.specs.Offsets.{count_of, offset_of}
 use Rattle.nm_hold.specs.Holds.{port_of}
@@ -12,22 +13,14 @@ use Rattle.nm_hold.specs.Holds.{port_of}
 pub nat_eq-is : (a b : ℕ) → nat_eq a b ≡ true → a ≡ b
 nat_eq-is a b e = grind (arith, nat_tests)
 
-nat_lt-is : (a b : ℕ) → nat_lt a b ≡ true → a < b
-nat_lt-is a b e = grind (arith, nat_tests)
-
-and-is : (a b : Bool) → (a && b) ≡ true → (a ≡ true) × (b ≡ true)
-and-is true true e = (refl, refl)
-and-is true false e = cc
-and-is false b e = cc
-
 pub same_place-is : (p q : Place) → is_same_place p q ≡ true → p ≡ q
-same_place-is (Tx port slot) (Tx other at) e = let both = and-is (nat_eq port.0 other.0) (nat_eq slot at) e in
+same_place-is (Tx port slot) (Tx other at) e = let both = both_are (nat_eq port.0 other.0) (nat_eq slot at) e in
     let ports : port.0 ≡ other.0 = nat_eq-is port.0 other.0 both.0 in let slots : slot ≡ at = nat_eq-is slot at both.1 in
     ap (λ (n : ℕ). Tx (record { 0 = n }) slot) ports ∙ ap (λ (n : ℕ). Tx other n) slots
-same_place-is (Rx port slot) (Rx other at) e = let both = and-is (nat_eq port.0 other.0) (nat_eq slot at) e in
+same_place-is (Rx port slot) (Rx other at) e = let both = both_are (nat_eq port.0 other.0) (nat_eq slot at) e in
     let ports : port.0 ≡ other.0 = nat_eq-is port.0 other.0 both.0 in let slots : slot ≡ at = nat_eq-is slot at both.1 in
     ap (λ (n : ℕ). Rx (record { 0 = n }) slot) ports ∙ ap (λ (n : ℕ). Rx other n) slots
-same_place-is (Extra port slot) (Extra other at) e = let both = and-is (nat_eq port.0 other.0) (nat_eq slot at) e in
+same_place-is (Extra port slot) (Extra other at) e = let both = both_are (nat_eq port.0 other.0) (nat_eq slot at) e in
     let ports : port.0 ≡ other.0 = nat_eq-is port.0 other.0 both.0 in let slots : slot ≡ at = nat_eq-is slot at both.1 in
     ap (λ (n : ℕ). Extra (record { 0 = n }) slot) ports ∙ ap (λ (n : ℕ). Extra other n) slots
 same_place-is (Tx port slot) (Rx other at) e = cc
@@ -36,9 +29,6 @@ same_place-is (Rx port slot) (Tx other at) e = cc
 same_place-is (Rx port slot) (Extra other at) e = cc
 same_place-is (Extra port slot) (Tx other at) e = cc
 same_place-is (Extra port slot) (Rx other at) e = cc
-
-both_true : (a b : Bool) → a ≡ true → b ≡ true → (a && b) ≡ true
-both_true a b e f = rw (e, f) refl
 
 nat_eq-refl : (a : ℕ) → nat_eq a a ≡ true
 nat_eq-refl a = grind (arith, nat_tests)
@@ -61,14 +51,14 @@ pub record Stands (port other slot size before at : ℕ) : Type 0 where
 stands_by : (port other slot size before at : ℕ) → (if nat_eq port other && nat_lt slot size then Some (before + slot) else None) ≡ Some at → Stands port other slot size before at
 stands_by port other slot size before at e =
     let some = some_if (nat_eq port other && nat_lt slot size) (before + slot) at e in
-    let both = and-is (nat_eq port other) (nat_lt slot size) some.0 in
-    record { same = nat_eq-is port other both.0; within = nat_lt-is slot size both.1; there = sym some.1 }
+    let both = both_are (nat_eq port other) (nat_lt slot size) some.0 in
+    record { same = nat_eq-is port other both.0; within = less_is slot size both.1; there = sym some.1 }
 
 pub tx_stands : (p : PortPlaces) (port : PortId) (slot at : ℕ) → offset_of p (Tx port slot) ≡ Some at → Stands port.0 p.port.0 slot p.sizes.tx 0 at
 tx_stands p port slot at e =
     let some = some_if (nat_eq port.0 p.port.0 && nat_lt slot p.sizes.tx) slot at e in
-    let both = and-is (nat_eq port.0 p.port.0) (nat_lt slot p.sizes.tx) some.0 in
-    record { same = nat_eq-is port.0 p.port.0 both.0; within = nat_lt-is slot p.sizes.tx both.1; there = omega (arith, some.1) }
+    let both = both_are (nat_eq port.0 p.port.0) (nat_lt slot p.sizes.tx) some.0 in
+    record { same = nat_eq-is port.0 p.port.0 both.0; within = less_is slot p.sizes.tx both.1; there = omega (arith, some.1) }
 
 pub rx_stands : (p : PortPlaces) (port : PortId) (slot at : ℕ) → offset_of p (Rx port slot) ≡ Some at → Stands port.0 p.port.0 slot p.sizes.rx p.sizes.tx at
 rx_stands p port slot at e = stands_by port.0 p.port.0 slot p.sizes.rx p.sizes.tx at e

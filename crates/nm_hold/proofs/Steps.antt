@@ -2,6 +2,7 @@
 use Rattle.std.proofs.Common.{ℕ, ◌≡◌, ◌<◌, ◌≤◌, Bool, true, false, if◌then◌else◌, List, length, map, slice_set, Option, Some, None, refl, sym, ◌∙◌, ap, arith}
 use Rattle.std.specs.Prelude.{All}
 use Rattle.std.proofs.lemmas.List.Elements.{All-from_recursion, recursion_from_All}
+use Rattle.std.proofs.lemmas.Option.{same_Some}
 use Rattle.nm_types.specs.declared.place.Place.{Place}
 use Rattle.nm_types.specs.Places.{held_at, is_same_place}
 use Rattle.nm_region.specs.Buffers.{Buffer}
@@ -13,7 +14,7 @@ use Rattle.nm_hold.specs.Tables.{IsTable, ports_of, number_at, put_in}
 use Rattle.nm_hold.specs.Holds.{cell_at, places_in}
 use Rattle.nm_hold.specs.Ties.{IsTied}
 use Rattle.nm_hold.proofs.Numbers.{number-put, tables-put, has_place-from_number}
-use Rattle.nm_hold.proofs.Tied.{some_is, number_if, number_if-some, held-number, tied-added, tied-removed}
+use Rattle.nm_hold.proofs.Tied.{number_if, number_if-some, held-number, tied-added, tied-removed}
 
 pub put_are_tables : (p : Place) (number : ℕ) (tables : List PortTable) → All IsTable tables → All IsTable (map (put_in p number) tables)
 put_are_tables p number tables all = All-from_recursion IsTable (map (put_in p number) tables) (tables-put p number tables (recursion_from_All IsTable tables all))
@@ -34,7 +35,7 @@ removed_tied cells tables p all tied some =
 
 with_buf : (cell : Option Standing) (buf : Buffer) → buf_in cell ≡ Some buf → (s : Standing) × (cell ≡ Some s) × (s.buf ≡ buf)
 with_buf None buf e = cc
-with_buf (Some s) buf e = (s, refl, some_is s.buf buf e)
+with_buf (Some s) buf e = (s, refl, same_Some s.buf buf e)
 
 -- a buffer that is taken out of its place
 pub record Removed (cells : List (Option Standing)) (tables : List PortTable) (p : Place) (idx : ℕ) (buf : Buffer) : Type 0 where

@@ -3,20 +3,16 @@ use Rattle.std.proofs.Common.{ℕ, zero, suc, ◌≡◌, ◌≢◌, ◌<◌, ◌
 use Rattle.std.proofs.lemmas.Bool.{cases_Bool}
 use Rattle.std.proofs.lemmas.Bool.Decides.{nat_tests}
 use Rattle.std.proofs.lemmas.List.{get_or-set_same, get_or-set_other}
+use Rattle.std.proofs.lemmas.Option.{same_Some}
 use Rattle.nm_types.specs.declared.place.Place.{Place}
 use Rattle.nm_types.specs.Places.{held_at, is_same_place}
+use Rattle.nm_types.proofs.Tests.{true_false}
 use Rattle.nm_hold.specs.declared.standing.Standing.{Standing}
 use Rattle.nm_hold.specs.declared.table.PortTable.{PortTable}
 use Rattle.nm_hold.specs.Tables.{number_at}
 use Rattle.nm_hold.specs.Holds.{cell_at, places_in, stands_at}
 use Rattle.nm_hold.specs.Ties.{StandsRightly, IsTied}
 use Rattle.nm_hold.proofs.Spots.{nat_eq-is, same_place-is, same_place-refl}
-
-true_false : {X : Type 0} → true ≡ false → X
-true_false e = cc
-
-pub some_is : {X : Type 0} (a b : X) → Some a ≡ Some b → a ≡ b
-some_is a b e = cc
 
 -- a place's number as what its look-up gives
 abbrev pub number_if : ℕ → Option ℕ
@@ -104,7 +100,7 @@ pub tied-added : (cells : List (Option Standing)) (tables new : List PortTable) 
 tied-added cells tables new p idx s tied empty put none within low place index = record {
   standing = λ i t e. elim (cases_Bool (nat_eq i idx)) [
     | inl same ↦ (let at : i ≡ idx = nat_eq-is i idx same in
-        let is : s ≡ t = some_is s t (sym (get_or-set_same cells idx (Some s) None within) ∙ (ap (λ (k : ℕ). cell_at (slice_set cells idx (Some s)) k) (sym at) ∙ e)) in
+        let is : s ≡ t = same_Some s t (sym (get_or-set_same cells idx (Some s) None within) ∙ (ap (λ (k : ℕ). cell_at (slice_set cells idx (Some s)) k) (sym at) ∙ e)) in
         rw (at, ← is) (record { low = low; index = index; number = ap (number_at new) place ∙ put_here p idx tables new put }))
     | inr differs ↦ (let other : i ≢ idx = apart_from i idx differs in
         let before : cell_at cells i ≡ Some t = sym (get_or-set_other cells idx i (Some s) None other) ∙ e in
@@ -157,7 +153,7 @@ tied-removed cells tables new p tied some put = record {
         let other : number_at tables q ≢ number_at tables p = (λ (e : number_at tables q ≡ number_at tables p).
         let here = standing_by_number cells tables p tied some in
         let there = standing_by_number cells tables q tied (omega arith) in
-        let one : here.0 ≡ there.0 = some_is here.0 there.0 (sym here.1 ∙ (ap (cell_at cells) (sym e) ∙ there.1)) in
+        let one : here.0 ≡ there.0 = same_Some here.0 there.0 (sym here.1 ∙ (ap (cell_at cells) (sym e) ∙ there.1)) in
         let places : p ≡ q = sym here.2 ∙ (ap (λ (s : Standing). s.home.place) one ∙ there.2) in
         true_false (sym (same_place-refl p) ∙ (ap (is_same_place p) places ∙ apart))) in
         rw (number, get_or-set_other cells (number_at tables p) (number_at tables q) None None other) old)
@@ -182,7 +178,7 @@ pub tied-kept : (cells : List (Option Standing)) (tables : List PortTable) (idx 
 tied-kept cells tables idx s new tied was place index = record {
   standing = λ i t e. elim (cases_Bool (nat_eq i idx)) [
     | inl same ↦ (let at : i ≡ idx = nat_eq-is i idx same in
-        let is : new ≡ t = some_is new t (sym (get_or-set_same cells idx (Some new) None within) ∙ (ap (cell_at (slice_set cells idx (Some new))) (sym at) ∙ e)) in
+        let is : new ≡ t = same_Some new t (sym (get_or-set_same cells idx (Some new) None within) ∙ (ap (cell_at (slice_set cells idx (Some new))) (sym at) ∙ e)) in
         let right = tied.standing idx s was in
         rw (at, ← is) (record { low = right.low; index = index ∙ right.index; number = ap (number_at tables) place ∙ right.number }))
     | inr differs ↦ (let other : i ≢ idx = apart_from i idx differs in

@@ -1,6 +1,7 @@
 -- A session all of whose bytes of a buffer are written.
 use Rattle.std.proofs.Common.{ℕ, zero, suc, ◌≡◌, ◌≤◌, Bool, true, false, List, [], ◌∷◌, ◌++◌, length, take, drop, set, Option, Some, None, refl, sym, ◌∙◌, ap, arith}
 use Rattle.std.proofs.lemmas.List.{length-set, length-take}
+use Rattle.std.proofs.lemmas.Option.{same_Some}
 use Rattle.nm_types.specs.declared.place.Place.{Place}
 use Rattle.nm_types.specs.Places.{Held, held_at}
 use Rattle.nm_types.specs.SyncChecks.{contains_index}
@@ -16,7 +17,6 @@ use Rattle.nm_own.specs.declared.own.OwnSide.TheInside.{Inside}
 use Rattle.nm_port.specs.Own.{own_seen, AreWhole}
 use Rattle.nm_own.specs.Kept.{IsKept}
 use Rattle.nm_own.specs.WrittenBytes.{with_all_written}
-use Rattle.nm_own.proofs.Tests.{some_is}
 use Rattle.nm_own.proofs.Filled.{is_named_seen}
 use Rattle.nm_own.proofs.Written.{fronted_is_seen, fronted_keeps, flagged_kept, filled_kept, whole_kept}
 
@@ -26,7 +26,7 @@ lent_size h idx bytes whole e = by_cell (standing_at h idx) refl e
   where
     by_flag : (s : Standing) (named : Bool) → standing_at h idx ≡ Some s → bytes_if named s.buf.bytes ≡ Some bytes → length bytes ≡ 2048
     by_flag s false there is = absurd cc
-    by_flag s true there is = ap (λ (bs : List ℕ). length bs) (sym (some_is s.buf.bytes bytes is)) ∙ whole idx s there
+    by_flag s true there is = ap (λ (bs : List ℕ). length bs) (sym (same_Some s.buf.bytes bytes is)) ∙ whole idx s there
 
     by_cell : (cell : Option Standing) → standing_at h idx ≡ cell → named_bytes_in cell ≡ Some bytes → length bytes ≡ 2048
     by_cell None there is = absurd cc
@@ -69,7 +69,7 @@ stood_at : (cells : List (Option Standing)) (idx i : ℕ) (bytes : List ℕ) (s 
 stood_at [] idx i bytes s e = absurd cc
 stood_at (None ∷ cells) zero zero bytes s e = absurd cc
 stood_at (Some t ∷ cells) zero zero bytes s e =
-    let is : s ≡ record t { buf = record (t.buf) { bytes = written_over t.buf.bytes bytes } } = sym (some_is _ s e) in
+    let is : s ≡ record t { buf = record (t.buf) { bytes = written_over t.buf.bytes bytes } } = sym (same_Some _ s e) in
     record { was = t; there = refl; home = ap (λ (x : Standing). x.home) is; index = ap (λ (x : Standing). x.buf.index) is }
 stood_at (cell ∷ cells) zero (suc i) bytes s e = record { was = s; there = e; home = refl; index = refl }
 stood_at (cell ∷ cells) (suc idx) zero bytes s e = record { was = s; there = e; home = refl; index = refl }

@@ -10,6 +10,7 @@ use Rattle.std.proofs.lemmas.List.{length-map}
 use Rattle.std.proofs.lemmas.List.FromFn.{length-range_with_len}
 use Rattle.std.proofs.lemmas.List.Elements.{recursion_from_All}
 use Rattle.std.proofs.lemmas.List.Folds.{list_any-append}
+use Rattle.std.proofs.lemmas.Option.{same_Some}
 use Rattle.nm_types.specs.declared.id.PortId.{PortId}
 use Rattle.nm_types.specs.declared.id.Side.{Side}
 use Rattle.nm_types.specs.declared.id.Side.TheVariants as side
@@ -22,6 +23,8 @@ use Rattle.nm_types.specs.SyncChecks.{contains_index}
 use Rattle.nm_types.specs.Chain.{link_of, seen_in_chain, chain_of}
 use Rattle.nm_types.specs.OwnPorts.{OwnPort, bytes_at, port_with_id, held_if, buffers_in}
 use Rattle.nm_types.specs.OwnSyncs.{without_bytes_of, own_after_finish, chain_in}
+use Rattle.nm_types.proofs.Lists.{each-joined}
+use Rattle.nm_types.proofs.Tests.{less_true, or_none, or_second, turned, false_true}
 use Rattle.nm_region.specs.Buffers.{Buffer, indices_of}
 use Rattle.nm_hold.specs.Standings.{buf_in}
 use Rattle.nm_hold.specs.declared.standing.Standing.{Standing}
@@ -37,13 +40,12 @@ use Rattle.nm_port.specs.Own.{number_on, extra_number_at, ring_seen, port_seen, 
 use Rattle.nm_own.specs.Kept.{IsKept}
 use Rattle.nm_own.specs.declared.own.OwnSide.TheInside.{Inside}
 use Rattle.nm_port.specs.Closing.{user_count, place_count, held_place, held_places, others, buffers_with_id, bytes_of_buffers, AreTaken}
-use Rattle.nm_port.proofs.Judging.{false_true}
 use Rattle.nm_port.proofs.Buffers.{buf_by_index}
 use Rattle.nm_port.proofs.Regions.{of_seen, holds_same, taken_of}
 use Rattle.nm_port.specs.Regions.{SideState, AllOf, AreOf, side_seen}
 use Rattle.nm_port.proofs.Checked.{bytes_are_seen, id_of_found}
-use Rattle.nm_own.proofs.Tests.{some_is, turned, or_none, less_true, or_second, some_of}
-use Rattle.nm_own.proofs.Filled.{all_append, all_range, all_slots}
+use Rattle.nm_own.proofs.Tests.{some_of}
+use Rattle.nm_own.proofs.Filled.{all_range, all_slots}
 use Rattle.nm_port.proofs.Seeing.{port_same}
 use Rattle.nm_port.proofs.PortOut.{IsOther, lacks_port, rest_other}
 use Rattle.nm_own.proofs.Opening.{unfilled_in, unfilled, none_if}
@@ -88,7 +90,7 @@ others_places id (p ∷ ports) = elim (cases_Bool (nat_eq p.id.0 id)) [
 pub filled_one : (ports : List UserPort) (id : ℕ) (p : UserPort) (q : Place) → port_at ports id ≡ Some p → ArePortsOnce (map places_of_port ports) → port_of q ≡ id → is_filled ports q ≡ is_filled_in q p
 filled_one [] id p q found once at = absurd cc
 filled_one (x ∷ ports) id p q found once at = elim (cases_Bool (nat_eq x.id.0 id)) [
-  | inl here ↦ (let is : x ≡ p = some_is x p (rw here at found) in
+  | inl here ↦ (let is : x ≡ p = same_Some x p (rw here at found) in
       let same : x.id.0 ≡ id = nat_eq-is x.id.0 id here in
       let rest : is_filled ports q ≡ false = unfilled ports id q at (rest_other ports id (rw same at once.0)) in
       rw (rest, ← is) (or_none (is_filled_in q x)))
@@ -121,8 +123,8 @@ tx_of_port id (Some r) = ring_of_port id r
 
 pub named_of_port : (p : UserPort) → AllByRecursion (IsOf p.id.0) (named_places_of p)
 named_of_port p =
-    all_append (IsOf p.id.0) (named_tx_places p.id p.tx) (named_ring_places p.id p.rx ++ map (place.Extra p.id) (range_with_len 0 p.extra)) (tx_of_port p.id p.tx)
-    (all_append (IsOf p.id.0) (named_ring_places p.id p.rx) (map (place.Extra p.id) (range_with_len 0 p.extra)) (ring_of_port p.id p.rx)
+    each-joined (IsOf p.id.0) (named_tx_places p.id p.tx) (named_ring_places p.id p.rx ++ map (place.Extra p.id) (range_with_len 0 p.extra)) (tx_of_port p.id p.tx)
+    (each-joined (IsOf p.id.0) (named_ring_places p.id p.rx) (map (place.Extra p.id) (range_with_len 0 p.extra)) (ring_of_port p.id p.rx)
     (all_range (IsOf p.id.0) (place.Extra p.id) 0 p.extra (λ k below. refl)))
 
 pub none_same : (qs : List Place) (id : ℕ) (q : Place) → AllByRecursion (IsOf id) qs → nat_eq (port_of q) id ≡ false → list_any (λ x. is_same_place x q) qs ≡ false
@@ -155,7 +157,7 @@ named_others (p ∷ ports) id q other =
 pub port_found : (h : HoldState) (ports : List UserPort) (id : ℕ) (p : UserPort) → port_at ports id ≡ Some p → port_with_id (own_seen h ports) id ≡ Some (port_seen h p)
 port_found h [] id p found = absurd cc
 port_found h (x ∷ ports) id p found = elim (cases_Bool (nat_eq x.id.0 id)) [
-  | inl here ↦ (let is : x ≡ p = some_is x p (rw here at found) in rw (here, is) refl)
+  | inl here ↦ (let is : x ≡ p = same_Some x p (rw here at found) in rw (here, is) refl)
   | inr other ↦ rw other (port_found h ports id p (rw other at found))
 ]
 
@@ -260,7 +262,7 @@ link_seen h ports idx = by_cell (standing_at h idx) refl ∙ ap link_of (sym (by
 extra_size : (ports : List UserPort) (id : ℕ) (p : UserPort) → port_at ports id ≡ Some p → extra_of (map places_of_port ports) id ≡ p.extra
 extra_size [] id p found = absurd cc
 extra_size (x ∷ ports) id p found = elim (cases_Bool (nat_eq x.id.0 id)) [
-  | inl here ↦ (let is : x ≡ p = some_is x p (rw here at found) in rw (here, is) refl)
+  | inl here ↦ (let is : x ≡ p = same_Some x p (rw here at found) in rw (here, is) refl)
   | inr other ↦ rw other (extra_size ports id p (rw other at found))
 ]
 
@@ -277,21 +279,21 @@ all_found f a (suc n) each = by_first (f a) refl (all_found f (a + 1) n (λ k be
 pub filled_in_one : (ports : List UserPort) (id : ℕ) (p : UserPort) (q : Place) → port_at ports id ≡ Some p → is_filled_in q p ≡ true → is_filled ports q ≡ true
 filled_in_one [] id p q found filled = absurd cc
 filled_in_one (x ∷ ports) id p q found filled = elim (cases_Bool (nat_eq x.id.0 id)) [
-  | inl here ↦ (let is : x ≡ p = some_is x p (rw here at found) in rw (is, filled) refl)
+  | inl here ↦ (let is : x ≡ p = same_Some x p (rw here at found) in rw (is, filled) refl)
   | inr other ↦ or_second (is_filled_in q x) (is_filled ports q) (filled_in_one ports id p q (rw other at found) filled)
 ]
 
 pub sided_one : (ports : List UserPort) (id : ℕ) (p : UserPort) → port_at ports id ≡ Some p → AreSided ports → IsTxSide p.tx × (p.rx.side ≡ side.Rx)
 sided_one [] id p found sided = absurd cc
 sided_one (x ∷ ports) id p found sided = elim (cases_Bool (nat_eq x.id.0 id)) [
-  | inl here ↦ (let is : x ≡ p = some_is x p (rw here at found) in rw (← is) sided.0)
+  | inl here ↦ (let is : x ≡ p = same_Some x p (rw here at found) in rw (← is) sided.0)
   | inr other ↦ sided_one ports id p (rw other at found) sided.1
 ]
 
 pub ring_one : (ports : List UserPort) (id : ℕ) (p : UserPort) → port_at ports id ≡ Some p → AreRings ports → IsRing p.rx.ring
 ring_one [] id p found rings = absurd cc
 ring_one (x ∷ ports) id p found rings = elim (cases_Bool (nat_eq x.id.0 id)) [
-  | inl here ↦ (let is : x ≡ p = some_is x p (rw here at found) in rw (← is) rings.0.1)
+  | inl here ↦ (let is : x ≡ p = same_Some x p (rw here at found) in rw (← is) rings.0.1)
   | inr other ↦ ring_one ports id p (rw other at found) rings.1
 ]
 
@@ -326,7 +328,7 @@ bytes_found h ports (b ∷ out) (idx ∷ idxs) e =
       where
         by_cell : (o : Option Standing) → standing_at h idx ≡ o → b.bytes ≡ bytes_in_hold h idx
         by_cell None there = absurd (let none = e ∙ ap buf_in there in cc)
-        by_cell (Some s) there = (let same : Some b ≡ Some s.buf = e ∙ ap buf_in there in ap (λ (x : Buffer). x.bytes) (some_is b s.buf same) ∙ sym (ap bytes_in_cell there))
+        by_cell (Some s) there = (let same : Some b ≡ Some s.buf = e ∙ ap buf_in there in ap (λ (x : Buffer). x.bytes) (same_Some b s.buf same) ∙ sym (ap bytes_in_cell there))
 
 -- buffers that were taken out of places, behind others that were out before
 module _ {h now : HoldState} {places : List Place} {before after : List Buffer} (taken : AreTaken h now places before after) where
@@ -495,7 +497,7 @@ module _ (h : HoldState) (ports : List UserPort) (id : PortId) (p : UserPort) (h
 sizes_small : (ports : List UserPort) (id : ℕ) (p : UserPort) → port_at ports id ≡ Some p → AllByRecursion (λ (x : PortPlaces). AreSizes x.sizes) (map places_of_port ports) → p.extra ≤ 1024
 sizes_small [] id p found small = absurd cc
 sizes_small (x ∷ ports) id p found small = elim (cases_Bool (nat_eq x.id.0 id)) [
-  | inl here ↦ (let is : x ≡ p = some_is x p (rw here at found) in rw (← is) small.0.extra)
+  | inl here ↦ (let is : x ≡ p = same_Some x p (rw here at found) in rw (← is) small.0.extra)
   | inr other ↦ sizes_small ports id p (rw other at found) small.1
 ]
 

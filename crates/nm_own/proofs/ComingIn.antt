@@ -4,6 +4,7 @@ use Rattle.std.proofs.Common.{ℕ, zero, suc, nat_le, ◌≡◌, ◌≢◌, ◌<
 use Rattle.std.specs.List.{AllByRecursion, IsDistinct}
 use Rattle.std.proofs.lemmas.Bool.{cases_Bool}
 use Rattle.std.proofs.lemmas.List.{length-set, get_or-set_same, get_or-set_other, reverse-append}
+use Rattle.std.proofs.lemmas.Option.{same_Some}
 use Rattle.nm_types.specs.declared.id.PortId.{PortId}
 use Rattle.nm_types.specs.declared.id.Side.{Side}
 use Rattle.nm_types.specs.declared.id.Side.TheVariants.{Tx, Rx}
@@ -12,6 +13,8 @@ use Rattle.nm_types.specs.Places.{Held, held_at, is_same_place}
 use Rattle.nm_types.specs.Positions.{step_on, dist}
 use Rattle.nm_types.specs.Buffers.{IsBufferIndex}
 use Rattle.nm_types.proofs.RingSteps.{dist-step_on}
+use Rattle.nm_types.proofs.Lists.{each-joined}
+use Rattle.nm_types.proofs.Tests.{turned, false_true, same_true}
 use Rattle.nm_region.specs.Buffers.{Buffer, indices_of}
 use Rattle.nm_hold.specs.declared.standing.Standing.{Standing}
 use Rattle.nm_hold.specs.Offsets.{has_place}
@@ -20,10 +23,7 @@ use Rattle.nm_hold.proofs.Spots.{nat_eq-is, same_place-is, same_place-refl}
 use Rattle.nm_port.specs.Filling.{placed, IsAway}
 use Rattle.nm_port.specs.Sides.{place_on}
 use Rattle.nm_port.specs.Lending.{IsOut, Run, place_of_run, AreOut}
-use Rattle.nm_port.proofs.Judging.{false_true, same_eq}
 use Rattle.nm_port.proofs.Filling.{within_pool}
-use Rattle.nm_own.proofs.Tests.{some_is, turned}
-use Rattle.nm_own.proofs.Filled.{all_append}
 use Rattle.nm_own.proofs.PutOne.{stands_here, stood_there}
 
 same_turned : (p q : Place) → is_same_place p q ≡ is_same_place q p
@@ -115,7 +115,7 @@ module _ (now : HoldState) (q : Place) (named : Bool) (buf : Buffer) (is : IsHol
   held_mid : (p : Place) (i : ℕ) → index_at mid p ≡ Some i → stands_at p (standing_at mid i) ≡ true
   held_mid p i e = elim (cases_Bool (is_same_place q p)) [
     | inl same ↦ (let at : Some buf.index ≡ Some i = sym (index_mid p ∙ ap (λ (b : Bool). if b then Some buf.index else index_at now p) same) ∙ e in
-        let number : buf.index ≡ i = some_is buf.index i at in
+        let number : buf.index ≡ i = same_Some buf.index i at in
         ap (λ (n : ℕ). stands_at p (standing_at mid n)) (sym number) ∙ (ap (stands_at p) stands ∙ (same_turned p q ∙ same)))
     | inr other ↦ (let old : index_at now p ≡ Some i = sym (index_mid p ∙ ap (λ (b : Bool). if b then Some buf.index else index_at now p) other) ∙ e in
         let stood = is.held p i old in
@@ -211,7 +211,7 @@ module _ (now : HoldState) (run : Run) (unnamed : ℕ) (buf : Buffer) (before : 
       still (i ∷ idxs) away apart = (
         (
           rw (length-set now.cells buf.index (Some (placed last flag buf))) away.0.0,
-          get_or-set_other now.cells buf.index i (Some (placed last flag buf)) None (λ e. false_true (sym apart.0 ∙ same_eq buf.index i (sym e))) ∙ away.0.1,
+          get_or-set_other now.cells buf.index i (Some (placed last flag buf)) None (λ e. false_true (sym apart.0 ∙ same_true buf.index i (sym e))) ∙ away.0.1,
         ),
         still idxs away.1 apart.1,
       )
@@ -225,12 +225,12 @@ come_in run unnamed (buf ∷ before) now can =
 -- lists turned round
 pub all_turned : {X : Type 0} (P : X → Type 0) (xs : List X) → AllByRecursion P xs → AllByRecursion P (reverse xs)
 all_turned P [] all = tt
-all_turned P (x ∷ xs) all = rw (reverse-append (x ∷ []) xs) (all_append P (reverse xs) (x ∷ []) (all_turned P xs all.1) (all.0, tt))
+all_turned P (x ∷ xs) all = rw (reverse-append (x ∷ []) xs) (each-joined P (reverse xs) (x ∷ []) (all_turned P xs all.1) (all.0, tt))
 
 distinct_last : (xs : List ℕ) (x : ℕ) → IsDistinct nat_eq xs → AllByRecursion (λ y. nat_eq x y ≡ false) xs → IsDistinct nat_eq (xs ++ x ∷ [])
 unfolding IsDistinct
 distinct_last [] x once apart = (tt, tt)
-distinct_last (y ∷ xs) x once apart = (all_append (λ z. nat_eq y z ≡ false) xs (x ∷ []) once.0 (turned x y apart.0, tt), distinct_last xs x once.1 apart.1)
+distinct_last (y ∷ xs) x once apart = (each-joined (λ z. nat_eq y z ≡ false) xs (x ∷ []) once.0 (turned x y apart.0, tt), distinct_last xs x once.1 apart.1)
 
 distinct_turned : (xs : List ℕ) → IsDistinct nat_eq xs → IsDistinct nat_eq (reverse xs)
 unfolding IsDistinct

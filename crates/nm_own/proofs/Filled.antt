@@ -12,6 +12,8 @@ use Rattle.nm_types.specs.Buffers.{IsPoolSize}
 use Rattle.nm_types.specs.SyncChecks.{contains_index}
 use Rattle.nm_types.specs.OwnPorts.{named_of}
 use Rattle.nm_types.proofs.RingSteps.{dist-below, dist-step_on, step_on-below}
+use Rattle.nm_types.proofs.Lists.{each-joined}
+use Rattle.nm_types.proofs.Tests.{both_true, less_true, or_first, or_second, false_true, same_true}
 use Rattle.nm_hold.specs.declared.standing.Standing.{Standing}
 use Rattle.nm_hold.specs.Holds.{HoldState, buffers_of, empty_hold, index_at, standing_at, cell_at, stands_at, places_in, is_named_at, is_named_in, IsHold}
 use Rattle.nm_hold.proofs.Spots.{nat_eq-is}
@@ -19,13 +21,7 @@ use Rattle.nm_port.specs.declared.port.UserPort.{UserPort}
 use Rattle.nm_port.specs.RingSlots.{RingSlots}
 use Rattle.nm_port.specs.Sides.{place_on, number_at}
 use Rattle.nm_port.specs.Own.{own_seen, named_ring_places, named_tx_places, named_places_of, named_places, size_if, is_filled, is_filled_in, AreWhole, AreFilled, AreFlagged, AreRings, AreSided, IsTxSide, IsRingIf}
-use Rattle.nm_port.proofs.Judging.{same_eq, false_true}
-use Rattle.nm_own.proofs.Tests.{or_second, less_true, both_true, or_first}
 use Rattle.nm_own.proofs.Naming.{are_named, named_is_seen}
-
-pub all_append : {X : Type 0} (P : X → Type 0) (xs ys : List X) → AllByRecursion P xs → AllByRecursion P ys → AllByRecursion P (xs ++ ys)
-all_append P [] ys left right = right
-all_append P (x ∷ xs) ys left right = (left.0, all_append P xs ys left.1 right)
 
 pub all_range : {X : Type 0} (P : X → Type 0) (f : ℕ → X) (a n : ℕ) → ((k : ℕ) → k < a + n → P (f k)) → AllByRecursion P (map f (range_with_len a n))
 all_range P f a zero each = tt
@@ -51,15 +47,15 @@ module _ (all : List UserPort) where
   port_filled : (p : UserPort) → IsTxSide p.tx → p.rx.side ≡ Rx → IsRingIf p.tx → IsRing p.rx.ring → ((q : Place) → is_filled_in q p ≡ true → HoldIn all q)
       → AllByRecursion (HoldIn all) (named_places_of p)
   port_filled p tx rx tx_ring rx_ring here =
-      all_append (HoldIn all) (named_tx_places p.id p.tx) _ (tx_filled p p.tx tx tx_ring (λ at below. here (place.Tx p.id at) (both_true (nat_eq p.id.0 p.id.0) (nat_lt at (size_if p.tx)) (same_eq p.id.0 p.id.0 refl) (less_true at (size_if p.tx) below))))
-      (all_append (HoldIn all) (named_ring_places p.id p.rx) _ received
-      (all_range (HoldIn all) (place.Extra p.id) 0 p.extra (λ k below. here (place.Extra p.id k) (both_true (nat_eq p.id.0 p.id.0) (nat_lt k p.extra) (same_eq p.id.0 p.id.0 refl) (less_true k p.extra (omega arith))))))
+      each-joined (HoldIn all) (named_tx_places p.id p.tx) _ (tx_filled p p.tx tx tx_ring (λ at below. here (place.Tx p.id at) (both_true (nat_eq p.id.0 p.id.0) (nat_lt at (size_if p.tx)) (same_true p.id.0 p.id.0 refl) (less_true at (size_if p.tx) below))))
+      (each-joined (HoldIn all) (named_ring_places p.id p.rx) _ received
+      (all_range (HoldIn all) (place.Extra p.id) 0 p.extra (λ k below. here (place.Extra p.id k) (both_true (nat_eq p.id.0 p.id.0) (nat_lt k p.extra) (same_true p.id.0 p.id.0 refl) (less_true k p.extra (omega arith))))))
     where
       received : AllByRecursion (HoldIn all) (named_ring_places p.id p.rx)
       received =
           let ring = p.rx.ring in
           all_slots (HoldIn all) (place_on p.rx.side p.id) ring.size ring.accepted_head 0 (dist ring.size ring.accepted_head ring.last_tail)
-          (λ k below. rw rx (here (place.Rx p.id (step_on ring.size ring.accepted_head k)) (both_true (nat_eq p.id.0 p.id.0) (is_user_slot ring (step_on ring.size ring.accepted_head k)) (same_eq p.id.0 p.id.0 refl) (user k below))))
+          (λ k below. rw rx (here (place.Rx p.id (step_on ring.size ring.accepted_head k)) (both_true (nat_eq p.id.0 p.id.0) (is_user_slot ring (step_on ring.size ring.accepted_head k)) (same_true p.id.0 p.id.0 refl) (user k below))))
         where
           user : (k : ℕ) → k < 0 + dist p.rx.ring.size p.rx.ring.accepted_head p.rx.ring.last_tail → is_user_slot p.rx.ring (step_on p.rx.ring.size p.rx.ring.accepted_head k) ≡ true
           user k below =
@@ -74,7 +70,7 @@ module _ (all : List UserPort) where
   ports_filled : (ports : List UserPort) → AreSided ports → AreRings ports → ((q : Place) → is_filled ports q ≡ true → HoldIn all q) → AllByRecursion (HoldIn all) (named_places ports)
   ports_filled [] sided rings there = tt
   ports_filled (p ∷ ports) sided rings there =
-      all_append (HoldIn all) (named_places_of p) (named_places ports) (port_filled p sided.0.0 sided.0.1 rings.0.0 rings.0.1 (λ q here. there q (or_first (is_filled_in q p) (is_filled ports q) here)))
+      each-joined (HoldIn all) (named_places_of p) (named_places ports) (port_filled p sided.0.0 sided.0.1 rings.0.0 rings.0.1 (λ q here. there q (or_first (is_filled_in q p) (is_filled ports q) here)))
       (ports_filled ports sided.1 rings.1 (λ q here. there q (or_second (is_filled_in q p) (is_filled ports q) here)))
 
 pub named_are_filled : (ports : List UserPort) → AreSided ports → AreRings ports → AllByRecursion (λ q. is_filled ports q ≡ true) (named_places ports)

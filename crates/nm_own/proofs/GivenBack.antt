@@ -6,6 +6,7 @@ use Rattle.std.specs.List.{AllByRecursion, range_with_len}
 use Rattle.std.proofs.lemmas.Bool.{cases_Bool}
 use Rattle.std.proofs.lemmas.Bool.Decides.{nat_tests}
 use Rattle.std.proofs.lemmas.List.{append-nil, drop-map, length-map}
+use Rattle.std.proofs.lemmas.Option.{same_Some}
 use Rattle.nm_types.specs.declared.id.PortId.{PortId}
 use Rattle.nm_types.specs.declared.id.Side.{Side}
 use Rattle.nm_types.specs.declared.id.Side.TheVariants.{Rx}
@@ -15,6 +16,7 @@ use Rattle.nm_types.specs.Positions.{IsRing, FitsRing, dist, step_on, slots_from
 use Rattle.nm_types.specs.OwnPorts.{pushed_on, with_ring_on}
 use Rattle.nm_types.specs.OwnSyncs.{after_slot, after_exchange, ring_after_receive, back_on, without_bytes_of, own_after_receive}
 use Rattle.nm_types.proofs.RingSteps.{dist-below, dist-step_on, step_on-below, step_on-dist, step_on-step_on, dist_split, length-slots_from, drop-slots_from}
+use Rattle.nm_types.proofs.Tests.{less_is, turned, false_true, same_true}
 use Rattle.nm_region.specs.Buffers.{Buffer}
 use Rattle.nm_hold.specs.declared.standing.Standing.{Standing}
 use Rattle.nm_hold.specs.Holds.{HoldState, index_at, standing_at, port_of}
@@ -25,13 +27,11 @@ use Rattle.nm_port.specs.Own.{number_on, ring_seen, port_seen, own_seen, slots_a
 use Rattle.nm_port.specs.Closing.{AreTaken}
 use Rattle.nm_port.specs.Exchanges.{pushed_count_of, user_position, CanExchange, AreExchanged, is_among}
 use Rattle.nm_port.specs.Receives.{user_places, ring_given_back, CanGiveBack}
-use Rattle.nm_port.proofs.Judging.{false_true, same_eq}
 use Rattle.nm_port.proofs.PortOut.{IsOther}
 use Rattle.nm_port.proofs.SlotLists.{accepted_ring, tail_stays}
 use Rattle.nm_port.proofs.Seeing.{map-slots, pushed_is_seen, port_same}
 use Rattle.nm_port.proofs.Pushes.{pushed_is_user}
 use Rattle.nm_port.proofs.Checked.{ring_found}
-use Rattle.nm_own.proofs.Tests.{some_is, turned, less_is}
 use Rattle.nm_own.proofs.Offered.{back_is_seen}
 use Rattle.nm_port.proofs.Buffers.{cells_by_bufs, count_by_bufs, whole_by_bufs}
 use Rattle.nm_own.proofs.Passing.{Passes, ring_is, own_side, positions_fit, ports_once, can_exchange_at}
@@ -60,7 +60,7 @@ module _ (h : HoldState) (ports : List UserPort) (id : PortId) (p : UserPort) (r
   fits = positions_fit h ports Rx id p r x
 
   its_ring : p.rx ≡ r
-  its_ring = some_is p.rx r x.on
+  its_ring = same_Some p.rx r x.on
 
   pub others : Among ports id.0 p
   others = among ports id.0 p x.has.found (ports_once h ports Rx id p r x)
@@ -86,7 +86,7 @@ module _ (h : HoldState) (ports : List UserPort) (id : PortId) (p : UserPort) (r
 
   pub can_exchange : CanExchange h id r
   can_exchange = can_exchange_at h ports Rx id p r x
-      (λ k below. filled_here (place.Rx id (user_position r k)) refl ∙ rw (x.has.same_id, same_eq id.0 id.0 refl) (pushed_user k below))
+      (λ k below. filled_here (place.Rx id (user_position r k)) refl ∙ rw (x.has.same_id, same_true id.0 id.0 refl) (pushed_user k below))
       (λ k below. named_here (place.Rx id (user_position r k)) refl ∙ ap (λ (i : PortId). is_among (named_places_of p) (place.Rx i (user_position r k))) (sym x.has.same_id) ∙ rx_named p (user_position r k) its_side its_positions (pushed_user k below))
 
   pub back_are : names_pushed r ≡ back_on id.0 (own_seen h ports)
@@ -102,11 +102,11 @@ module _ (h : HoldState) (ports : List UserPort) (id : PortId) (p : UserPort) (r
     where
       none_of : (all : List UserPort) → AllByRecursion (IsOther id.0) all → AllByRecursion (CanGiveBack id.0) all
       none_of [] other = tt
-      none_of (y ∷ all) other = ((λ e. false_true (sym other.0 ∙ same_eq y.id.0 id.0 e)), none_of all other.1)
+      none_of (y ∷ all) other = ((λ e. false_true (sym other.0 ∙ same_true y.id.0 id.0 e)), none_of all other.1)
 
       over : (before : List UserPort) → AllByRecursion (IsOther id.0) before → AllByRecursion (CanGiveBack id.0) (before ++ p ∷ others.behind)
       over [] first = ((λ e. rw its_ring (record { side = rx_side; fits = fits })), none_of others.behind others.rest)
-      over (y ∷ before) first = ((λ e. false_true (sym first.0 ∙ same_eq y.id.0 id.0 e)), over before first.1)
+      over (y ∷ before) first = ((λ e. false_true (sym first.0 ∙ same_true y.id.0 id.0 e)), over before first.1)
 
   abbrev count : ℕ
   count = pushed_count_of r
@@ -164,8 +164,8 @@ module _ (h : HoldState) (ports : List UserPort) (id : PortId) (p : UserPort) (r
         let q = place.Rx id at in
         let one = ap is_some (taken.index q) ∙ (is_some_if (is_among gone q) (index_at h1 q) ∙ ap (λ (b : Bool). if is_among gone q then false else b) (was_filled q refl)) in
         elim (cases_Bool (nat_lt at size)) [
-          | inl inside ↦ one ∙ (rw (x.has.same_id, its_ring, same_eq id.0 id.0 refl, inside) (ap (λ (b : Bool). if b then false else nat_lt (dist size r.ring.accepted_head at) (dist size r.ring.accepted_head r.ring.last_tail)) (gone_at at (less_is at size inside)) ∙ user_left r.ring at is_ring fits (less_is at size inside)))
-          | inr outside ↦ one ∙ rw (x.has.same_id, its_ring, same_eq id.0 id.0 refl, outside) (none_either (is_among gone q))
+          | inl inside ↦ one ∙ (rw (x.has.same_id, its_ring, same_true id.0 id.0 refl, inside) (ap (λ (b : Bool). if b then false else nat_lt (dist size r.ring.accepted_head at) (dist size r.ring.accepted_head r.ring.last_tail)) (gone_at at (less_is at size inside)) ∙ user_left r.ring at is_ring fits (less_is at size inside)))
+          | inr outside ↦ one ∙ rw (x.has.same_id, its_ring, same_true id.0 id.0 refl, outside) (none_either (is_among gone q))
         ]
       where
         none_either : (b : Bool) → (if b then false else false) ≡ false

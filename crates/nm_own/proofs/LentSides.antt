@@ -3,6 +3,7 @@ use Rattle.std.proofs.Common.{ℕ, nat_le, ◌≡◌, ◌<◌, ◌≤◌, true, 
 use Rattle.std.specs.Prelude.{is_some, IsSome}
 use Rattle.std.proofs.lemmas.List.{length-map}
 use Rattle.std.proofs.lemmas.Bool.Decides.{nat_tests}
+use Rattle.std.proofs.lemmas.Option.{same_Some}
 use Rattle.nm_types.specs.declared.id.PortId.{PortId}
 use Rattle.nm_types.specs.declared.id.Side.{Side}
 use Rattle.nm_types.specs.declared.id.Side.TheVariants.{Tx, Rx}
@@ -22,7 +23,7 @@ use Rattle.nm_port.specs.Exchanges.{pushed_count_of, user_place, CanExchange, Ar
 use Rattle.nm_port.specs.Lending.{AreNamedAs, AreOut, AreSwapped, place_of_run}
 use Rattle.nm_own.specs.Kept.{IsKept}
 use Rattle.nm_own.specs.LentSides.{IsLent, first_lent, lent_count_of, unnamed_count, lent_run, lent_places, lent_number, lent_buffers}
-use Rattle.nm_own.proofs.Tests.{some_is, some_of}
+use Rattle.nm_own.proofs.Tests.{some_of}
 use Rattle.nm_own.proofs.Closing.{out_behind, out_indices, out_bytes}
 use Rattle.nm_own.proofs.Passing.{Passes, passes_of, ring_is, positions_fit}
 use Rattle.nm_own.proofs.Pushed.{can_exchange as put_can_exchange}
@@ -109,7 +110,7 @@ module _ (side : Side) (id : PortId) (s : SideState) (lent : List Buffer) (l : L
       record { was = x.was; exchanged = x.exchanged; p = p.0; passes = p.1; seen = x.seen; kept = x.kept; exchange = x.exchange; swapped = x.swapped; few = x.few; lent_count = x.lent_count; out = x.out }
 
   pub lent_with : (r : RingSlots) → slots_at side l.ports.items id.0 ≡ Some r → LentWith side id l r s lent
-  lent_with r at = subst (λ (t : RingSlots). LentWith side id l t s lent) (some_is x.r r (sym x.ring ∙ at)) lent_of
+  lent_with r at = subst (λ (t : RingSlots). LentWith side id l t s lent) (same_Some x.r r (sym x.ring ∙ at)) lent_of
 
   -- as many buffers are lent as the push names
   pub lent_length : length lent ≡ lent_number side id.0 s.own

@@ -1,5 +1,5 @@
 -- The slots that a put offers, and the buffers in their places once its push is exchanged.
-use Rattle.std.proofs.Common.{ℕ, zero, suc, map, fold, take, nat_eq, ◌≡◌, ◌<◌, ◌≤◌, ◌+◌, ◌-◌, true, false, nat_le, nat_lt, List, [], ◌∷◌, ◌++◌, length, Option, Some, None, inl, inr, refl, sym, ◌∙◌, ap, arith}
+use Rattle.std.proofs.Common.{ℕ, zero, suc, map, fold, take, nat_eq, ◌≡◌, ◌<◌, ◌≤◌, ◌+◌, ◌-◌, true, false, nat_le, List, [], ◌∷◌, ◌++◌, length, Option, Some, None, inl, inr, refl, sym, ◌∙◌, ap, arith}
 use Rattle.std.specs.Prelude.{IsSome}
 use Rattle.std.specs.List.{range_with_len}
 use Rattle.std.proofs.lemmas.List.{length-map}
@@ -7,6 +7,7 @@ use Rattle.std.proofs.lemmas.List.FromFn.{get_or-map-range_with_len, take-map-ra
 use Rattle.std.proofs.lemmas.Bool.{cases_Bool, cases_lt}
 use Rattle.std.proofs.lemmas.Bool.Decides.{nat_tests}
 use Rattle.std.proofs.lemmas.List.Folds.{list_any-append}
+use Rattle.std.proofs.lemmas.Option.{same_Some}
 use Rattle.nm_types.specs.declared.id.PortId.{PortId}
 use Rattle.nm_types.specs.declared.id.Side.{Side}
 use Rattle.nm_types.specs.declared.id.Side.TheVariants as side
@@ -16,6 +17,7 @@ use Rattle.nm_types.specs.declared.place.Place.TheVariants as place
 use Rattle.nm_types.specs.Places.{is_same_place}
 use Rattle.nm_types.specs.Positions.{IsRing, FitsRing, dist, step_on, slots_from, pending_slots, pushed_slots, user_slots}
 use Rattle.nm_types.proofs.RingSteps.{dist-below, dist-add, dist_behind, step_on-below, step_on-dist, step_on-step_on, length-slots_from}
+use Rattle.nm_types.proofs.Tests.{less_false}
 use Rattle.nm_hold.specs.declared.standing.Standing.{Standing}
 use Rattle.nm_hold.specs.Holds.{HoldState, index_at, standing_at, stands_at, is_named_in}
 use Rattle.nm_hold.proofs.Spots.{same_place-is}
@@ -27,7 +29,7 @@ use Rattle.nm_port.specs.Exchanges.{is_among, pushed_count_of, user_position, us
 use Rattle.nm_port.specs.Puts.{offered_slot}
 use Rattle.nm_port.specs.Lending.{AreNamedAs}
 use Rattle.nm_own.specs.LentSides.{pending_count_of, offered_count_of, offered_count, offered_buffers}
-use Rattle.nm_own.proofs.Tests.{some_is, some_of, some_true}
+use Rattle.nm_own.proofs.Tests.{some_of, some_true}
 use Rattle.nm_own.proofs.Closing.{sided_one}
 use Rattle.nm_port.proofs.Checked.{ring_found}
 use Rattle.nm_port.proofs.Seeing.{pushed_is_seen}
@@ -38,9 +40,6 @@ use Rattle.nm_own.proofs.OnePort.{Among, among, named_at}
 use Rattle.nm_own.proofs.Passing.{Passes, ring_is, own_side, positions_fit, ports_once}
 use Rattle.nm_port.proofs.Ranges.{is_slot_from}
 use Rattle.nm_own.proofs.Pushed.{among_tx, rest_not_tx, slots_held, can_exchange}
-
-not_less : (a b : ℕ) → b ≤ a → nat_lt a b ≡ false
-not_less a b e = grind (arith, nat_tests)
 
 is_least : (a b : ℕ) → a ≤ b → nat_le a b ≡ true
 is_least a b e = grind (arith, nat_tests)
@@ -96,7 +95,7 @@ module _ (h : HoldState) (ports : List UserPort) (id : PortId) (p : UserPort) (r
       ap (dist size r.ring.accepted_head) (step_on-step_on size r.ring.last_tail 1 k) ∙ dist-add size r.ring.accepted_head r.ring.last_tail (1 + k) ring_of_put.accepted tail_within (omega (arith, pending_is, below)) in
       let in_ring : is_among (named_ring_places id r) q ≡ false =
       rw tx_side (among_tx id (user_slots r.ring) at ∙ (is_slot_from size r.ring.accepted_head (dist size r.ring.accepted_head r.ring.last_tail) at ring_of_put.accepted (omega arith) inside
-      ∙ not_less (dist size r.ring.accepted_head at) (dist size r.ring.accepted_head r.ring.last_tail) (omega (arith, far)))) in
+      ∙ less_false (dist size r.ring.accepted_head at) (dist size r.ring.accepted_head r.ring.last_tail) (omega (arith, far)))) in
       let rest = rest_not_tx id r 0 ring_of_put can p at (sided_one ports id.0 p x.has.found x.has.sided).1 in
       ap (λ (all : List UserPort). is_among (named_places all) q) others.are
       ∙ (named_at id.0 others.before others.behind p q others.first others.rest refl
@@ -140,7 +139,7 @@ module _ (h : HoldState) (ports : List UserPort) (id : PortId) (p : UserPort) (r
     taken_seen : (all : List UserPort) (n : ℕ) → port_at all id.0 ≡ Some p → taken_on id.0 (map (port_seen h1) all) n ≡ taken_from n (ring_seen h1 id r)
     taken_seen [] n there = absurd cc
     taken_seen (y ∷ all) n there = elim (cases_Bool (nat_eq y.id.0 id.0)) [
-      | inl here ↦ (let is_p : y ≡ p = some_is y p (rw here at there) in
+      | inl here ↦ (let is_p : y ≡ p = same_Some y p (rw here at there) in
           let tx_y : y.tx ≡ Some r = ap (λ (z : UserPort). z.tx) is_p ∙ x.on in
           let id_y : y.id ≡ id = ap (λ (z : UserPort). z.id) is_p ∙ x.has.same_id in
           rw (here, tx_y, id_y) refl)

@@ -5,7 +5,7 @@ use Rattle.std.specs.List.{range_with_len}
 use Rattle.std.proofs.lemmas.Bool.{cases_Bool}
 use Rattle.std.proofs.lemmas.Bool.Decides.{nat_tests}
 use Rattle.std.proofs.lemmas.List.{length-map}
-use Rattle.std.proofs.lemmas.Option.{slice_get-get_or, slice_get_past}
+use Rattle.std.proofs.lemmas.Option.{slice_get-get_or, slice_get_past, same_Some}
 use Rattle.std.proofs.lemmas.List.FromFn.{length-range_with_len, get_or-map-range_with_len}
 use Rattle.std.proofs.lemmas.List.Folds.{list_any-append}
 use Rattle.nm_types.specs.declared.place.Place.{Place}
@@ -14,6 +14,7 @@ use Rattle.nm_types.specs.Chain.{link_bytes, linked}
 use Rattle.nm_types.specs.SyncChecks.{contains_index}
 use Rattle.nm_types.specs.OwnPorts.{OwnPort, OwnState, bytes_at, with_bytes, port_with_id, port_if, named_in, user_buffers_if}
 use Rattle.nm_types.specs.OwnEdits.{with_written, extra_number, with_head_of_chain, link_in, with_extra_link_in, with_extra_link}
+use Rattle.nm_types.proofs.Tests.{or_second}
 use Rattle.nm_hold.specs.Standings.{named_bytes_in}
 use Rattle.nm_hold.specs.declared.standing.Standing.{Standing}
 use Rattle.nm_hold.specs.Holds.{HoldState, buffers_of, standing_at, named_bytes_at, is_named_at, IsHold}
@@ -21,7 +22,6 @@ use Rattle.nm_port.specs.declared.port.UserPort.{UserPort}
 use Rattle.nm_port.specs.Sides.{number_at}
 use Rattle.nm_port.specs.Own.{extra_number_at, port_seen, own_seen, bytes_in_cell, bytes_in_hold, is_filled_in, AreFilled, AreFlagged, AreSided, AreRings}
 use Rattle.nm_own.specs.ExtraChain.{extra_at, extra_numbered, port_headed_if, named_bytes}
-use Rattle.nm_own.proofs.Tests.{some_is, or_second}
 use Rattle.nm_own.proofs.Filled.{is_named_seen}
 use Rattle.nm_own.proofs.KeptPorts.{KeepsPort, keeps_port_if}
 use Rattle.nm_port.proofs.Checked.{bytes_are_seen}
@@ -74,7 +74,7 @@ extra_named ports s id p at are there below = over ports (ap (λ (all : List Own
     over : (all : List OwnPort) → port_with_id (record s { ports = all }) id ≡ Some p → contains_index (flat_map named_in all) (slice_index p.extra at) ≡ true
     over [] e = absurd cc
     over (x ∷ all) e = list_any-append (λ b. nat_eq b (slice_index p.extra at)) (named_in x) (flat_map named_in all) ∙ (elim (cases_Bool (nat_eq x.id.0 id)) [
-      | inl here ↦ (let is : x ≡ p = some_is x p (rw here at e) in
+      | inl here ↦ (let is : x ≡ p = same_Some x p (rw here at e) in
           rw (in_port x (slice_index p.extra at) (ap (λ (y : OwnPort). contains_index y.extra (slice_index p.extra at)) is ∙ in_list p.extra at below)) refl)
       | inr other ↦ or_second (contains_index (named_in x) (slice_index p.extra at)) (contains_index (flat_map named_in all) (slice_index p.extra at)) (over all (rw other at e))
     ])
@@ -84,7 +84,7 @@ module _ (s : OwnState) (id to here next : ℕ) where
   numbered : (o : Option OwnPort) (number n : ℕ) → option_and_then (extra_numbered number) o ≡ Some n → (p : OwnPort) × (o ≡ Some p) × (nat_le number (length p.extra) ≡ true) × (extra_number p number ≡ n)
   numbered None number n e = absurd cc
   numbered (Some p) number n e = elim (cases_Bool (nat_le number (length p.extra))) [
-    | inl within ↦ (p, refl, within, some_is (extra_number p number) n (rw within at e))
+    | inl within ↦ (p, refl, within, same_Some (extra_number p number) n (rw within at e))
     | inr past ↦ absurd (let none = rw past at e in cc)
   ]
 
@@ -94,7 +94,7 @@ module _ (s : OwnState) (id to here next : ℕ) where
   extra_linked (suc at) e first second =
       let a = numbered (port_with_id s id) (suc at) here first in
       let b = numbered (port_with_id s id) to next second in
-      let same : a.0 ≡ b.0 = some_is a.0 b.0 (sym a.1 ∙ b.1) in
+      let same : a.0 ≡ b.0 = same_Some a.0 b.0 (sym a.1 ∙ b.1) in
       let within : nat_le to (length a.0.extra) ≡ true = ap (λ (p : OwnPort). nat_le to (length p.extra)) same ∙ b.2 in
       let is : extra_number a.0 to ≡ next = ap (λ (p : OwnPort). extra_number p to) same ∙ b.3 in
       let named = extra_named s.ports s id a.0 at refl a.1 (below at (length a.0.extra) a.2) in

@@ -4,6 +4,7 @@ use Rattle.std.specs.Prelude.{is_some}
 use Rattle.std.specs.List.{range_with_len}
 use Rattle.std.proofs.lemmas.Bool.{cases_Bool}
 use Rattle.std.proofs.lemmas.List.Folds.{list_any-append}
+use Rattle.std.proofs.lemmas.Option.{same_Some}
 use Rattle.nm_types.specs.declared.id.PortId.{PortId}
 use Rattle.nm_types.specs.declared.id.Side.{Side}
 use Rattle.nm_types.specs.declared.id.Side.TheVariants.{Tx, Rx}
@@ -12,6 +13,7 @@ use Rattle.nm_types.specs.declared.place.Place.TheVariants as place
 use Rattle.nm_types.specs.Places.{is_same_place}
 use Rattle.nm_types.specs.Positions.{IsRing, dist, user_slots, is_user_slot}
 use Rattle.nm_types.proofs.RingSteps.{dist-below}
+use Rattle.nm_types.proofs.Tests.{both_are, less_is, or_first, or_second, false_true, same_true}
 use Rattle.nm_hold.specs.declared.standing.Standing.{Standing}
 use Rattle.nm_hold.specs.Holds.{index_at, standing_at, stands_at, is_named_at, is_named_in}
 use Rattle.nm_hold.proofs.Spots.{same_place-is}
@@ -20,12 +22,10 @@ use Rattle.nm_port.specs.RingSlots.{RingSlots}
 use Rattle.nm_port.specs.Sides.{HaveNamed}
 use Rattle.nm_port.specs.Own.{port_at, slots_at, named_ring_places, named_tx_places, named_places_of, named_places, is_filled_in}
 use Rattle.nm_port.specs.Exchanges.{is_among}
-use Rattle.nm_port.proofs.Judging.{false_true, same_eq}
 use Rattle.nm_port.proofs.Checked.{found, side_found, tx_ring_found}
 use Rattle.nm_port.proofs.Ranges.{is_slot_from, among_slots}
 use Rattle.nm_own.specs.declared.own.OwnSide.TheInside.{Inside}
 use Rattle.nm_own.specs.Kept.{IsKept}
-use Rattle.nm_own.proofs.Tests.{some_is, or_second, or_first, less_is, and-is}
 use Rattle.nm_own.proofs.Closing.{filled_in_one}
 use Rattle.nm_own.proofs.Offered.{rx_ring_found}
 use Rattle.nm_own.proofs.RxPlaces.{rx_named}
@@ -35,7 +35,7 @@ named_in_one : (ports : List UserPort) (id : ℕ) (p : UserPort) (q : Place) →
 named_in_one [] id p q at named = absurd cc
 named_in_one (x ∷ ports) id p q at named =
     list_any-append (λ y. is_same_place y q) (named_places_of x) (named_places ports) ∙ elim (cases_Bool (nat_eq x.id.0 id)) [
-      | inl here ↦ (let is : x ≡ p = some_is x p (rw here at at) in or_first (is_among (named_places_of x) q) (is_among (named_places ports) q) (rw is named))
+      | inl here ↦ (let is : x ≡ p = same_Some x p (rw here at at) in or_first (is_among (named_places_of x) q) (is_among (named_places ports) q) (rw is named))
       | inr other ↦ or_second (is_among (named_places_of x) q) (is_among (named_places ports) q) (named_in_one ports id p q (rw other at at) named)
     ]
 
@@ -44,7 +44,7 @@ tx_named : (p : UserPort) (r : RingSlots) (at : ℕ) → p.tx ≡ Some r → r.s
 tx_named p r at on side is user =
     let q = place.Tx p.id at in
     let rest = named_ring_places p.id p.rx ++ map (place.Extra p.id) (range_with_len 0 p.extra) in
-    let both = and-is (nat_lt at r.ring.size) (nat_lt (dist r.ring.size r.ring.accepted_head at) (dist r.ring.size r.ring.accepted_head r.ring.last_tail)) user in
+    let both = both_are (nat_lt at r.ring.size) (nat_lt (dist r.ring.size r.ring.accepted_head at) (dist r.ring.size r.ring.accepted_head r.ring.last_tail)) user in
     let few = dist-below r.ring.size r.ring.accepted_head r.ring.last_tail is.accepted in
     let there : is_among (named_ring_places p.id r) q ≡ true =
     rw side (among_slots Tx p.id (user_slots r.ring) at ∙ (is_slot_from r.ring.size r.ring.accepted_head (dist r.ring.size r.ring.accepted_head r.ring.last_tail) at is.accepted (omega arith) (less_is at r.ring.size both.0) ∙ both.1)) in
@@ -74,15 +74,15 @@ module _ (o : Inside) (kept : IsKept o) where
   by_side Tx id r at own n user =
       let f = found o.ports.items Tx id r at in
       let is = tx_ring_found o.ports.items id r kept.rings at in
-      let both = and-is (nat_lt n r.ring.size) (nat_lt (dist r.ring.size r.ring.accepted_head n) (dist r.ring.size r.ring.accepted_head r.ring.last_tail)) user in
-      let filled : is_filled_in (place.Tx id n) f.p ≡ true = rw (f.id, f.on, same_eq id.0 id.0 refl) both.0 in
+      let both = both_are (nat_lt n r.ring.size) (nat_lt (dist r.ring.size r.ring.accepted_head n) (dist r.ring.size r.ring.accepted_head r.ring.last_tail)) user in
+      let filled : is_filled_in (place.Tx id n) f.p ≡ true = rw (f.id, f.on, same_true id.0 id.0 refl) both.0 in
       let named : is_among (named_places_of f.p) (place.Tx id n) ≡ true = ap (λ (i : PortId). is_among (named_places_of f.p) (place.Tx i n)) (sym f.id) ∙ tx_named f.p r n f.on own is user in
       rw own (has_named id.0 f.p (place.Tx id n) f.there filled named)
   by_side Rx id r at own n user =
       let f = found o.ports.items Rx id r at in
       let is = rx_ring_found o.ports.items id r kept.rings at in
-      let its : f.p.rx ≡ r = some_is f.p.rx r f.on in
-      let filled : is_filled_in (place.Rx id n) f.p ≡ true = rw (f.id, its, same_eq id.0 id.0 refl) user in
+      let its : f.p.rx ≡ r = same_Some f.p.rx r f.on in
+      let filled : is_filled_in (place.Rx id n) f.p ≡ true = rw (f.id, its, same_true id.0 id.0 refl) user in
       let named : is_among (named_places_of f.p) (place.Rx id n) ≡ true =
       ap (λ (i : PortId). is_among (named_places_of f.p) (place.Rx i n)) (sym f.id) ∙ rx_named f.p n (ap (λ (t : RingSlots). t.side) its ∙ own) (rw its is) (rw its user) in
       rw own (has_named id.0 f.p (place.Rx id n) f.there filled named)

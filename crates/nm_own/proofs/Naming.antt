@@ -12,6 +12,7 @@ use Rattle.nm_types.specs.Positions.{user_slots, dist}
 use Rattle.nm_types.specs.Places.{is_same_place}
 use Rattle.nm_types.specs.SyncChecks.{contains_index}
 use Rattle.nm_types.specs.OwnPorts.{buffer_in, named_in, named_of, user_buffers_if}
+use Rattle.nm_types.proofs.Tests.{false_true, same_true}
 use Rattle.nm_hold.specs.declared.standing.Standing.{Standing}
 use Rattle.nm_hold.specs.Holds.{HoldState, index_at, standing_at, stands_at, is_named_in, IsHold}
 use Rattle.nm_hold.proofs.Spots.{nat_eq-is, same_place-is}
@@ -19,7 +20,6 @@ use Rattle.nm_port.specs.declared.port.UserPort.{UserPort}
 use Rattle.nm_port.specs.RingSlots.{RingSlots}
 use Rattle.nm_port.specs.Sides.{place_on, number_at, AreNamed}
 use Rattle.nm_port.specs.Own.{positions_of, number_on, extra_number_at, ring_seen, port_seen, own_seen, named_ring_places, named_tx_places, named_places_of, named_places, AreFlagged, IsTxSide, AreSided, IsRingIf, AreRings}
-use Rattle.nm_port.proofs.Judging.{same_eq, false_true}
 use Rattle.nm_port.proofs.Seeing.{map-slots, buffer_seen}
 
 same_bool : (a b : Bool) → (a ≡ true → b ≡ true) → (b ≡ true → a ≡ true) → a ≡ b
@@ -41,7 +41,7 @@ holds_there h q idx s is low there = same_bool (nat_eq (number_at h q) idx) (is_
     (λ e. ap (stands_at q) (sym there) ∙ is.held q idx (index_is (index_at h q) idx low e))
     (λ e. (let same : q ≡ s.home.place = same_place-is q s.home.place e in
     let index : index_at h q ≡ Some idx = ap (index_at h) same ∙ (is.standing idx s there).there in
-    rw index (same_eq idx idx refl)))
+    rw index (same_true idx idx refl)))
 
 not_there : (h : HoldState) (q : Place) (idx : ℕ) → IsHold h → 2 ≤ idx → standing_at h idx ≡ None → nat_eq (number_at h q) idx ≡ false
 not_there h q idx is low none = by_test (nat_eq (number_at h q) idx) refl

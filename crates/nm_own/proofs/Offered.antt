@@ -1,5 +1,6 @@
 -- What a put offers, and what a receive sync gives back, over what is seen.
 use Rattle.std.proofs.Common.{ℕ, ◌≡◌, List, [], ◌∷◌, ◌++◌, map, Some, refl, sym, ◌∙◌, ap}
+use Rattle.std.proofs.lemmas.Option.{same_Some}
 use Rattle.nm_types.specs.declared.id.PortId.{PortId}
 use Rattle.nm_types.specs.declared.id.Side.TheVariants.{Tx, Rx}
 use Rattle.nm_types.specs.Positions.{IsRing, pending_slots, pushed_slots}
@@ -17,7 +18,6 @@ use Rattle.nm_own.specs.FittingRings.{IsFittingRing}
 use Rattle.nm_port.proofs.Checked.{bytes_are_seen, found, frames_are_seen, ring_found, side_found}
 use Rattle.nm_port.proofs.Seeing.{pushed_is_seen}
 use Rattle.nm_port.proofs.Pushes.{names-seen}
-use Rattle.nm_own.proofs.Tests.{some_is}
 use Rattle.nm_own.proofs.Closing.{ring_one}
 
 pub offers_are_seen : (h : HoldState) (ports : List UserPort) (id : PortId) (r : RingSlots) → AreSided ports → slots_at Tx ports id.0 ≡ Some r → offers_seen h r ≡ frames_offered id.0 (own_seen h ports)
@@ -48,7 +48,7 @@ lengths_are_seen h ports id r sided at =
 pub rx_ring_found : (ports : List UserPort) (id : PortId) (r : RingSlots) → AreRings ports → slots_at Rx ports id.0 ≡ Some r → IsRing r.ring
 rx_ring_found ports id r rings at =
     let f = found ports Rx id r at in
-    let is : f.p.rx ≡ r = some_is f.p.rx r f.on in
+    let is : f.p.rx ≡ r = same_Some f.p.rx r f.on in
     rw (← is) (ring_one ports id.0 f.p f.there rings)
 
 pub back_is_seen : (h : HoldState) (ports : List UserPort) (id : PortId) (r : RingSlots) → AreSided ports → IsFittingRing ports id.0 Rx r → names_pushed r ≡ back_on id.0 (own_seen h ports)

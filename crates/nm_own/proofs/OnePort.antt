@@ -5,12 +5,14 @@ use Rattle.std.specs.Prelude.{is_some}
 use Rattle.std.specs.List.{AllByRecursion}
 use Rattle.std.proofs.lemmas.Bool.{cases_Bool}
 use Rattle.std.proofs.lemmas.List.Folds.{list_any-append}
+use Rattle.std.proofs.lemmas.Option.{same_Some}
 use Rattle.nm_types.specs.declared.id.PortId.{PortId}
 use Rattle.nm_types.specs.declared.id.Side.TheVariants.{Rx}
 use Rattle.nm_types.specs.declared.place.Place.{Place}
 use Rattle.nm_types.specs.Places.{is_same_place}
 use Rattle.nm_types.specs.Positions.{IsRing}
 use Rattle.nm_types.specs.OwnPorts.{OwnPort, port_if}
+use Rattle.nm_types.proofs.Tests.{or_none, same_true, turned}
 use Rattle.nm_hold.specs.declared.standing.Standing.{Standing}
 use Rattle.nm_hold.specs.declared.table.PortPlaces.{PortPlaces}
 use Rattle.nm_hold.specs.Offsets.{count_of, ArePortsOnce}
@@ -22,7 +24,6 @@ use Rattle.nm_port.specs.Own.{port_seen, port_at, named_places_of, named_places,
 use Rattle.nm_own.specs.Kept.{IsKept}
 use Rattle.nm_port.specs.Exchanges.{is_among}
 use Rattle.nm_port.proofs.PortOut.{IsOther, rest_other}
-use Rattle.nm_own.proofs.Tests.{some_is, turned, or_none, same_true}
 use Rattle.nm_own.proofs.Opening.{unfilled_in, unfilled}
 use Rattle.nm_own.proofs.Closing.{named_of_port, none_same}
 
@@ -37,7 +38,7 @@ pub record Among (ports : List UserPort) (id : ℕ) (p : UserPort) : Type 0 wher
 pub among : (ports : List UserPort) (id : ℕ) (p : UserPort) → port_at ports id ≡ Some p → ArePortsOnce (map places_of_port ports) → Among ports id p
 among [] id p found once = absurd cc
 among (x ∷ ports) id p found once = elim (cases_Bool (nat_eq x.id.0 id)) [
-  | inl here ↦ (let is : x ≡ p = some_is x p (rw here at found) in
+  | inl here ↦ (let is : x ≡ p = same_Some x p (rw here at found) in
       record { before = []; behind = ports; are = ap (λ (y : UserPort). y ∷ ports) is; first = tt; rest = rest_other ports id (rw (nat_eq-is x.id.0 id here) at once.0) })
   | inr other ↦ (let m = among ports id p (rw other at found) once.1 in
       record { before = x ∷ m.before; behind = m.behind; are = ap (λ (xs : List UserPort). x ∷ xs) m.are; first = (other, m.first); rest = m.rest })
@@ -177,13 +178,13 @@ module _ (was new : HoldState) (id : PortId) (g : OwnPort → OwnPort) (others :
 pub tx_side_of : (ports : List UserPort) (id : ℕ) (p : UserPort) → port_at ports id ≡ Some p → AreSided ports → IsTxSide p.tx
 tx_side_of [] id p found sided = absurd cc
 tx_side_of (x ∷ ports) id p found sided = elim (cases_Bool (nat_eq x.id.0 id)) [
-  | inl here ↦ (let is : x ≡ p = some_is x p (rw here at found) in rw (← is) sided.0.0)
+  | inl here ↦ (let is : x ≡ p = same_Some x p (rw here at found) in rw (← is) sided.0.0)
   | inr other ↦ tx_side_of ports id p (rw other at found) sided.1
 ]
 
 pub tx_ring_of : (ports : List UserPort) (id : ℕ) (p : UserPort) → port_at ports id ≡ Some p → AreRings ports → IsRingIf p.tx
 tx_ring_of [] id p found rings = absurd cc
 tx_ring_of (x ∷ ports) id p found rings = elim (cases_Bool (nat_eq x.id.0 id)) [
-  | inl here ↦ (let is : x ≡ p = some_is x p (rw here at found) in rw (← is) rings.0.0)
+  | inl here ↦ (let is : x ≡ p = same_Some x p (rw here at found) in rw (← is) rings.0.0)
   | inr other ↦ tx_ring_of ports id p (rw other at found) rings.1
 ]

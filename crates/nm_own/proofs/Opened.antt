@@ -14,6 +14,7 @@ use Rattle.nm_types.specs.declared.place.Place.TheVariants as place
 use Rattle.nm_types.specs.Places.{held_at, is_same_place}
 use Rattle.nm_types.specs.Positions.{IsRingSize, opened_rx, is_user_slot, dist}
 use Rattle.nm_types.proofs.RingSteps.{dist_self}
+use Rattle.nm_types.proofs.Tests.{or_none, turned, false_true}
 use Rattle.nm_types.specs.OwnPorts.{OwnPort}
 use Rattle.nm_types.specs.OwnSyncs.{opened_tx_ring, opened_port, own_after_open, buffers_of_arrivals}
 use Rattle.nm_region.specs.Buffers.{Buffer, indices_of}
@@ -28,8 +29,6 @@ use Rattle.nm_port.specs.Sides.{place_on}
 use Rattle.nm_port.specs.Own.{number_on, held_on, extra_number_at, ring_seen, port_seen, own_seen, bytes_in_cell, named_ring_places, named_tx_places, named_places_of, named_places, size_if, is_filled, is_filled_in, places_of_port, AreFilled, AreFlagged, AreSided, AreRings, AreWhole, HasPlaces, IsTxSide, IsRingIf, HasBackRoom, HaveBackRoom}
 use Rattle.nm_port.specs.Filling.{place_in, index_with, named_with, bytes_with, AreFilledWith}
 use Rattle.nm_own.specs.Opening.{IsTxSize, blank_arrivals, opened_slots, opened_user_port}
-use Rattle.nm_port.proofs.Judging.{false_true}
-use Rattle.nm_own.proofs.Tests.{or_none, turned}
 use Rattle.nm_own.proofs.Filled.{named_are_filled}
 use Rattle.nm_port.proofs.Seeing.{port_same}
 use Rattle.nm_port.proofs.PortOut.{IsOther}

@@ -15,6 +15,7 @@ use Rattle.nm_types.specs.Buffers.{cleared_but}
 use Rattle.nm_types.specs.Chain.{linked, chain_head, opened_links}
 use Rattle.nm_types.specs.OwnPorts.{OwnPort, port_with_id}
 use Rattle.nm_types.specs.OwnSyncs.{with_arrival, with_link, with_links}
+use Rattle.nm_types.proofs.Tests.{less_true, or_second, same_true, turned, false_true}
 use Rattle.nm_hold.specs.declared.table.PortPlaces.{PortPlaces}
 use Rattle.nm_hold.specs.Offsets.{has_place, has_port, offset_of}
 use Rattle.nm_hold.specs.Holds.{HoldState, port_of}
@@ -26,9 +27,7 @@ use Rattle.nm_port.specs.Own.{port_seen, own_seen, is_filled, is_filled_in, plac
 use Rattle.nm_port.specs.Filling.{place_in, index_with, named_with, bytes_with}
 use Rattle.nm_own.specs.Opening.{blank_arrival, blank_arrivals}
 use Rattle.nm_port.proofs.Filling.{row_apart}
-use Rattle.nm_port.proofs.Judging.{false_true}
 use Rattle.nm_port.proofs.PortOut.{IsOther}
-use Rattle.nm_own.proofs.Tests.{turned, or_second, less_true, same_true}
 
 -- no port has this id
 pub no_port : (h : HoldState) (ports : List UserPort) (id : ℕ) → port_with_id (own_seen h ports) id ≡ None → AllByRecursion (IsOther id) ports

@@ -13,11 +13,10 @@ use Rattle.nm_types.specs.SyncChecks.{is_beyond}
 use Rattle.nm_types.specs.OwnPorts.{OwnRing, OwnPort, OwnState, Arrival, ring_at, port_if, with_ring_on, pushed_count, pushed_on, pushed_in, named_of, refusal_in}
 use Rattle.nm_types.specs.OwnSyncs.{accepted, port_swapped, buffer_on, after_slot, after_exchange, published, buffers_of_arrivals, with_arrival, without_bytes_of, back_on, ring_after_receive, own_after_receive}
 use Rattle.nm_types.proofs.RingSteps.{dist-below, dist-add, dist_self, step_on-step_on}
+use Rattle.nm_types.proofs.Tests.{less_true, same_true}
 use Rattle.nm_slot.proofs.CheckLaws.{passed_positions_fit}
 use Rattle.nm_port.specs.Receives.{has_free_slot, ring_with_arrival, own_with_arrival}
 use Rattle.nm_own.specs.Laws.{FramesComeOneByOne, RoomForFrames}
-use Rattle.nm_port.proofs.Judging.{same_eq}
-use Rattle.nm_own.proofs.Tests.{less_true}
 
 -- one frame more
 module _ (done : List Arrival) (a : Arrival) where
@@ -102,7 +101,7 @@ free_after ring n is fits few =
     let none = dist_self size ring.head fits.head_within in
     let head = not_beyond size ring.head (step_on size ring.last_tail n) ring.head fits.head_within (omega (arith, none)) in
     let cur = not_beyond size ring.head (step_on size ring.last_tail n) ring.cur fits.cur_within (omega (arith, farther, fits.cur_reach)) in
-    rw (head, cur, same_eq ring.head ring.head refl, less_true (dist size ring.head (step_on size ring.last_tail n)) (size - 1) (omega (arith, farther, few))) refl
+    rw (head, cur, same_true ring.head ring.head refl, less_true (dist size ring.head (step_on size ring.last_tail n)) (size - 1) (omega (arith, farther, few))) refl
 
 pub room_for_frames : RoomForFrames
 room_for_frames id came s r at is passes few =

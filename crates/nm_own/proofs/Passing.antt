@@ -13,6 +13,7 @@ use Rattle.nm_types.specs.Slots.{Pushed}
 use Rattle.nm_types.specs.SyncChecks.{contains_index, EachPasses}
 use Rattle.nm_types.specs.OwnPorts.{named_of, ring_at}
 use Rattle.nm_types.proofs.RingSteps.{length-slots_from}
+use Rattle.nm_types.proofs.Tests.{false_true, same_true}
 use Rattle.nm_slot.proofs.CheckLaws.{passed_slots_pass, passed_names_once}
 use Rattle.nm_hold.specs.declared.standing.Standing.{Standing}
 use Rattle.nm_hold.specs.Offsets.{ArePortsOnce}
@@ -27,7 +28,6 @@ use Rattle.nm_port.specs.Regions.{SideState, side_seen}
 use Rattle.nm_own.specs.Kept.{IsKept}
 use Rattle.nm_own.specs.FittingRings.{IsFittingRing}
 use Rattle.nm_port.specs.Exchanges.{IsNamedThere, pushed_count_of, user_position, user_place, is_among, CanExchange}
-use Rattle.nm_port.proofs.Judging.{false_true, same_eq}
 use Rattle.nm_own.proofs.Tests.{some_of}
 use Rattle.nm_own.proofs.Closing.{Has, has_port}
 use Rattle.nm_own.proofs.Naming.{are_named}
@@ -106,7 +106,7 @@ module _ (h : HoldState) (ports : List UserPort) (side : Side) (id : PortId) (p 
       let apart = apart_from_distinct nat_eq names j k 0 once less (omega (arith, long, below)) in
       let at : (i : ℕ) → i < pushed_count_of r → get_or names i 0 ≡ name_at r (user_position r i) = (λ i few. (let first : 0 + i ≡ i = omega arith in
       get-slots (name_at r) r.ring.size r.ring.accepted_head 0 (pushed_count_of r) i 0 few ∙ ap (λ (n : ℕ). name_at r (user_position r n)) first)) in
-      false_true (sym apart ∙ same_eq (get_or names j 0) (get_or names k 0) (at j (omega arith) ∙ (same ∙ sym (at k below))))
+      false_true (sym apart ∙ same_true (get_or names j 0) (get_or names k 0) (at j (omega arith) ∙ (same ∙ sym (at k below))))
 
   pub can_exchange_at : ((k : ℕ) → k < pushed_count_of r → is_filled ports (place_on side id (user_position r k)) ≡ true) → ((k : ℕ) → k < pushed_count_of r → is_among (named_places ports) (place_on side id (user_position r k)) ≡ true)
       → CanExchange h id r

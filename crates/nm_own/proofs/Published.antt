@@ -7,6 +7,7 @@ use Rattle.std.proofs.lemmas.Bool.{cases_Bool}
 use Rattle.std.proofs.lemmas.Bool.Decides.{nat_tests}
 use Rattle.std.proofs.lemmas.List.{length-replicate}
 use Rattle.std.proofs.lemmas.List.Folds.{list_any-append}
+use Rattle.std.proofs.lemmas.Option.{same_Some}
 use Rattle.nm_types.specs.declared.id.PortId.{PortId}
 use Rattle.nm_types.specs.declared.id.Side.TheVariants.{Rx}
 use Rattle.nm_types.specs.declared.place.Place.{Place}
@@ -18,6 +19,7 @@ use Rattle.nm_types.specs.Buffers.{IsBufferIndex, cleared_but}
 use Rattle.nm_types.specs.SyncChecks.{ring_refusal}
 use Rattle.nm_types.specs.OwnPorts.{OwnRing, Arrival, with_ring_on}
 use Rattle.nm_types.proofs.RingSteps.{dist-below, dist-step_on, dist-add, step_on-below, step_on-dist}
+use Rattle.nm_types.proofs.Tests.{both_are, less_is, less_true, or_none, or_second, false_true, same_true}
 use Rattle.nm_slot.proofs.CheckLaws.{passed_positions_fit}
 use Rattle.nm_region.specs.Buffers.{Buffer}
 use Rattle.nm_hold.specs.declared.standing.Standing.{Standing}
@@ -33,9 +35,7 @@ use Rattle.nm_own.specs.Kept.{IsKept}
 use Rattle.nm_port.specs.Filling.{placed}
 use Rattle.nm_port.specs.Exchanges.{is_among}
 use Rattle.nm_port.specs.Receives.{has_free_slot, can_receive, ring_with_arrival, own_with_arrival, ring_published, HasRoom}
-use Rattle.nm_port.proofs.Judging.{false_true, same_eq}
 use Rattle.nm_port.proofs.PortOut.{IsOther}
-use Rattle.nm_own.proofs.Tests.{some_is, less_true, less_is, or_none, and-is, or_second}
 use Rattle.nm_own.proofs.Opening.{none_if}
 use Rattle.nm_own.proofs.Closing.{Has, has_port}
 use Rattle.nm_port.proofs.SlotLists.{accepted_ring}
@@ -67,8 +67,8 @@ none_is (Some x) e = absurd cc
 
 pub room_is : (ring : RingState) → IsRing ring → has_free_slot ring ≡ true → FitsRing ring ring.head ring.cur × (ring.accepted_head ≡ ring.head) × (0 < kernel_count ring.size ring.head ring.last_tail)
 room_is ring is free =
-    let both = and-is (is_none (ring_refusal ring ring.head ring.cur)) (nat_eq ring.accepted_head ring.head && nat_lt (dist ring.size ring.accepted_head ring.last_tail) (ring.size - 1)) free in
-    let rest = and-is (nat_eq ring.accepted_head ring.head) (nat_lt (dist ring.size ring.accepted_head ring.last_tail) (ring.size - 1)) both.1 in
+    let both = both_are (is_none (ring_refusal ring ring.head ring.cur)) (nat_eq ring.accepted_head ring.head && nat_lt (dist ring.size ring.accepted_head ring.last_tail) (ring.size - 1)) free in
+    let rest = both_are (nat_eq ring.accepted_head ring.head) (nat_lt (dist ring.size ring.accepted_head ring.last_tail) (ring.size - 1)) both.1 in
     let none : ring_refusal ring ring.head ring.cur ≡ None = none_is (ring_refusal ring ring.head ring.cur) both.0 in
     let accepted : ring.accepted_head ≡ ring.head = nat_eq-is ring.accepted_head ring.head rest.0 in
     let few = less_is (dist ring.size ring.accepted_head ring.last_tail) (ring.size - 1) rest.1 in
@@ -84,7 +84,7 @@ receives_of o id r kept at can =
     let side = side_found o.ports.items Rx id r kept.sided at in
     let is = rx_ring_found o.ports.items id r kept.rings at in
     let free : has_free_slot r.ring ≡ true = sym (ap (λ (o : Option OwnRing). option_map_or (λ (t : OwnRing). has_free_slot t.ring) o false) (ring_found o.hold o.ports.items Rx id r at)) ∙ can in
-    (f.p, record { has = has_port o id f.p kept f.there; on = some_is f.p.rx r f.on; is_ring = is; room = room_of r side is free })
+    (f.p, record { has = has_port o id f.p kept f.there; on = same_Some f.p.rx r f.on; is_ring = is; room = room_of r side is free })
 
 pub cannot_receive : (h : HoldState) (ports : List UserPort) (id : ℕ) → slots_at Rx ports id ≡ None → can_receive id (own_seen h ports) ≡ true → ⊥
 cannot_receive h ports id none can = clash (sym can ∙ ap (λ (o : Option OwnRing). option_map_or (λ (t : OwnRing). has_free_slot t.ring) o false) (ring_not_found h ports Rx id none))
@@ -96,7 +96,7 @@ cannot_receive h ports id none can = clash (sym can ∙ ap (λ (o : Option OwnRi
 pub has_place_of : (ports : List UserPort) (id : ℕ) (p : UserPort) (q : Place) → port_at ports id ≡ Some p → is_some (offset_of (places_of_port p) q) ≡ true → has_place (map places_of_port ports) q ≡ true
 has_place_of [] id p q found e = absurd cc
 has_place_of (y ∷ ports) id p q found e = elim (cases_Bool (nat_eq y.id.0 id)) [
-  | inl here ↦ (let is : y ≡ p = some_is y p (rw here at found) in rw (is, e) refl)
+  | inl here ↦ (let is : y ≡ p = same_Some y p (rw here at found) in rw (is, e) refl)
   | inr other ↦ or_second (is_some (offset_of (places_of_port y) q)) (has_place (map places_of_port ports) q) (has_place_of ports id p q (rw other at found) e)
 ]
 
@@ -139,10 +139,10 @@ module _ (h : HoldState) (ports : List UserPort) (id : PortId) (p : UserPort) (r
 
   -- the slot at the tail is empty
   pub belongs : has_place h.ports spot ≡ true
-  belongs = rw x.has.places (has_place_of ports id.0 p spot x.has.found (rw (x.has.same_id, x.on, same_eq id.0 id.0 refl, less_true tail size tail_within) refl))
+  belongs = rw x.has.places (has_place_of ports id.0 p spot x.has.found (rw (x.has.same_id, x.on, same_true id.0 id.0 refl, less_true tail size tail_within) refl))
 
   pub empty : index_at h spot ≡ None
-  empty = none_if (index_at h spot) (x.has.filled spot ∙ (filled_here spot refl ∙ rw (x.has.same_id, x.on, same_eq id.0 id.0 refl, less_true tail size tail_within, not_itself (dist size r.ring.accepted_head tail)) refl))
+  empty = none_if (index_at h spot) (x.has.filled spot ∙ (filled_here spot refl ∙ rw (x.has.same_id, x.on, same_true id.0 id.0 refl, less_true tail size tail_within, not_itself (dist size r.ring.accepted_head tail)) refl))
 
   -- one slot more is the user's
   farther : dist size first (step_on size tail 1) ≡ count + 1
@@ -184,7 +184,7 @@ module _ (h : HoldState) (ports : List UserPort) (id : PortId) (p : UserPort) (r
 
     apart : (q : Place) → nat_eq (port_of q) id.0 ≡ false → is_same_place spot q ≡ false
     apart q other = elim (cases_Bool (is_same_place spot q)) [
-      | inl same ↦ false_true (sym other ∙ same_eq (port_of q) id.0 (ap port_of (sym (same_place-is spot q same))))
+      | inl same ↦ false_true (sym other ∙ same_true (port_of q) id.0 (ap port_of (sym (same_place-is spot q same))))
       | inr differs ↦ differs
     ]
 
@@ -194,11 +194,11 @@ module _ (h : HoldState) (ports : List UserPort) (id : PortId) (p : UserPort) (r
     filled_rx : (at : ℕ) → is_some (index_at new (place.Rx id at)) ≡ is_filled_in (place.Rx id at) with_frame
     filled_rx at =
         let q = place.Rx id at in
-        let same : is_same_place spot q ≡ nat_eq tail at = rw (same_eq id.0 id.0 refl) refl in
+        let same : is_same_place spot q ≡ nat_eq tail at = rw (same_true id.0 id.0 refl) refl in
         let one : is_some (index_at new q) ≡ (is_filled_in q p || nat_eq tail at) = ap is_some (places q) ∙ (ap (λ (b : Bool). is_some (if b then Some buf.index else index_at h q)) same ∙ (is_some_if (nat_eq tail at) (index_at h q) ∙ ap (λ (b : Bool). b || nat_eq tail at) (x.has.filled q ∙ filled_here q refl))) in
         elim (cases_Bool (nat_lt at size)) [
-          | inl inside ↦ one ∙ rw (x.has.same_id, x.on, same_eq id.0 id.0 refl, inside) (sym (user_more at (less_is at size inside)))
-          | inr outside ↦ one ∙ rw (x.has.same_id, x.on, same_eq id.0 id.0 refl, outside) (not_tail outside)
+          | inl inside ↦ one ∙ rw (x.has.same_id, x.on, same_true id.0 id.0 refl, inside) (sym (user_more at (less_is at size inside)))
+          | inr outside ↦ one ∙ rw (x.has.same_id, x.on, same_true id.0 id.0 refl, outside) (not_tail outside)
         ]
       where
         is_some_if : (b : Bool) (o : Option ℕ) → is_some (if b then Some buf.index else o) ≡ (is_some o || b)
@@ -233,7 +233,7 @@ module _ (h : HoldState) (ports : List UserPort) (id : PortId) (p : UserPort) (r
 
     flags_elsewhere : (i : ℕ) (s : Standing) → standing_at new i ≡ Some s → nat_eq (port_of s.home.place) id.0 ≡ false → s.home.named ≡ is_among (named_places ports) s.home.place
     flags_elsewhere i s there differs = elim (cases_Bool (nat_eq buf.index i)) [
-      | inl here ↦ (let is = stands_here h new spot true buf x.has.is_hold index cell i s there here in false_true (sym differs ∙ same_eq (port_of s.home.place) id.0 (ap (λ (t : Standing). port_of t.home.place) (sym is))))
+      | inl here ↦ (let is = stands_here h new spot true buf x.has.is_hold index cell i s there here in false_true (sym differs ∙ same_true (port_of s.home.place) id.0 (ap (λ (t : Standing). port_of t.home.place) (sym is))))
       | inr other ↦ x.has.flagged i s (stood_there h new spot true buf x.has.is_hold index cell i s there other)
     ]
 
@@ -266,7 +266,7 @@ module _ (h : HoldState) (ports : List UserPort) (id : PortId) (p : UserPort) (r
           | inl same ↦ (let e : dist size first tail ≡ k = ap (dist size first) (nat_eq-is tail at same) ∙ there in absurd (omega arith))
           | inr differs ↦ differs
         ] in
-        let none : is_same_place spot (place.Rx id at) ≡ false = rw (same_eq id.0 id.0 refl) other in
+        let none : is_same_place spot (place.Rx id at) ≡ false = rw (same_true id.0 id.0 refl) other in
         ap (λ (i : PortId). number_at new (place.Rx i at)) x.has.same_id
         ∙ (ap (λ (o : Option ℕ). unwrap_or o 0) (places (place.Rx id at) ∙ ap (λ (b : Bool). if b then Some buf.index else index_at h (place.Rx id at)) none)
         ∙ ap (λ (i : PortId). number_at h (place.Rx i at)) (sym x.has.same_id))

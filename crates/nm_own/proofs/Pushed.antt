@@ -6,6 +6,7 @@ use Rattle.std.specs.List.{AllByRecursion, list_any, range_with_len}
 use Rattle.std.proofs.lemmas.Bool.{cases_Bool}
 use Rattle.std.proofs.lemmas.Bool.Decides.{nat_tests}
 use Rattle.std.proofs.lemmas.List.Folds.{list_any-append}
+use Rattle.std.proofs.lemmas.Option.{same_Some}
 use Rattle.nm_types.specs.declared.id.PortId.{PortId}
 use Rattle.nm_types.specs.declared.id.Side.{Side}
 use Rattle.nm_types.specs.declared.id.Side.TheVariants as side
@@ -16,6 +17,7 @@ use Rattle.nm_types.specs.Positions.{IsRing, FitsRing, dist, step_on, slots_from
 use Rattle.nm_types.specs.OwnPorts.{OwnRing, OwnPort, OwnState, port_if, with_ring_on, pushed_on, pushed_count}
 use Rattle.nm_types.specs.OwnSyncs.{accepted, slots_after_push, after_slot, after_exchange, ring_after_send, own_after_send}
 use Rattle.nm_types.proofs.RingSteps.{dist-below, dist-step_on, step_on-below, dist-add, dist_split, seen_from, length-slots_from}
+use Rattle.nm_types.proofs.Tests.{less_true, or_second, turned, false_true, same_true}
 use Rattle.nm_hold.specs.Offsets.{ArePortsOnce}
 use Rattle.nm_hold.specs.Holds.{HoldState, buffers_of, index_at, port_of}
 use Rattle.nm_hold.proofs.Spots.{nat_eq-is}
@@ -26,9 +28,8 @@ use Rattle.nm_port.specs.Sides.{place_on, pushed_seen}
 use Rattle.nm_port.specs.Own.{ring_seen, port_seen, own_seen, port_at, slots_at, bytes_in_cell, named_ring_places, named_tx_places, named_places_of, named_places, is_filled, is_filled_in, places_of_port, AreFlagged, AreSided, AreRings, AreWhole, IsRingIf, port_changed, port_changed_if}
 use Rattle.nm_own.specs.Kept.{IsKept}
 use Rattle.nm_port.specs.Exchanges.{pushed_count_of, user_position, CanExchange, ArePushedOut, is_among, named_after_push, tx_places, ring_pushed_out, CanPushOut, CanPushOutIf, CanAccept}
-use Rattle.nm_port.proofs.Judging.{false_true, same_eq}
 use Rattle.nm_port.proofs.PortOut.{IsOther, rest_other}
-use Rattle.nm_own.proofs.Tests.{some_is, or_second, less_true, turned, some_of}
+use Rattle.nm_own.proofs.Tests.{some_of}
 use Rattle.nm_own.proofs.Closing.{none_same, named_of_port, filled_in_one, filled_one}
 use Rattle.nm_port.proofs.SlotLists.{accepted_ring}
 use Rattle.nm_port.proofs.Seeing.{pushed_is_seen}
@@ -90,7 +91,7 @@ flag_is size a b c h t n al bl cl reach tl room near far = elim (cases_Bool (nat
 -- a place among transmit slots
 pub among_tx : (id : PortId) (ats : List ℕ) (at : ℕ) → is_among (map (place.Tx id) ats) (place.Tx id at) ≡ list_any (λ x. nat_eq x at) ats
 among_tx id [] at = refl
-among_tx id (x ∷ ats) at = rw (same_eq id.0 id.0 refl) (ap (λ (b : Bool). nat_eq x at || b) (among_tx id ats at))
+among_tx id (x ∷ ats) at = rw (same_true id.0 id.0 refl) (ap (λ (b : Bool). nat_eq x at || b) (among_tx id ats at))
 
 pub tx_elsewhere : (id : PortId) (ats : List ℕ) (q : Place) → nat_eq id.0 (port_of q) ≡ false → is_among (map (place.Tx id) ats) q ≡ false
 tx_elsewhere id [] q other = refl
@@ -244,7 +245,7 @@ module _ (id : PortId) (r : RingSlots) (taken : ℕ) (is : IsRing r.ring) (can :
       → is_among (named_places (map (port_changed_if id.0 side.Tx change) ports)) q ≡ named_after_push id r taken (is_among (named_places ports)) q
   named_after [] p q sided once found tx inside = absurd cc
   named_after (x ∷ ports) p q sided once found tx inside = elim (cases_Bool (nat_eq x.id.0 id.0)) [
-    | inl here ↦ (let is_p : x ≡ p = some_is x p (rw here at found) in
+    | inl here ↦ (let is_p : x ≡ p = same_Some x p (rw here at found) in
         let tx_x : x.tx ≡ Some r = ap (λ (y : UserPort). y.tx) is_p ∙ tx in
         let id_x : x.id ≡ id = ap (λ (n : ℕ). let i : PortId = record { 0 = n } in i) (nat_eq-is x.id.0 id.0 here) in
         let rest = rest_other ports id.0 (rw (nat_eq-is x.id.0 id.0 here) at once.0) in
@@ -285,7 +286,7 @@ module _ (h : HoldState) (ports : List UserPort) (id : PortId) (p : UserPort) (r
 
   -- all its slots hold a buffer
   slot_filled : (at : ℕ) → at < r.ring.size → is_filled_in (place.Tx id at) p ≡ true
-  slot_filled at inside = rw (x.has.same_id, x.on, same_eq id.0 id.0 refl) (less_true at r.ring.size inside)
+  slot_filled at inside = rw (x.has.same_id, x.on, same_true id.0 id.0 refl) (less_true at r.ring.size inside)
 
   pub slots_held : (at : ℕ) → at < r.ring.size → IsSome (index_at h (place.Tx id at))
   slots_held at inside = some_of (index_at h (place.Tx id at)) (x.has.filled (place.Tx id at) ∙ filled_in_one ports id.0 p (place.Tx id at) x.has.found (slot_filled at inside))
@@ -295,7 +296,7 @@ module _ (h : HoldState) (ports : List UserPort) (id : PortId) (p : UserPort) (r
       → is_among (named_places all) (place.Tx id at) ≡ true
   user_named [] e at inside user = absurd cc
   user_named (y ∷ all) e at inside user = elim (cases_Bool (nat_eq y.id.0 id.0)) [
-    | inl here ↦ (let is_p : y ≡ p = some_is y p (rw here at e) in
+    | inl here ↦ (let is_p : y ≡ p = same_Some y p (rw here at e) in
         let places : named_places_of y ≡ named_ring_places id r ++ (named_ring_places p.id p.rx ++ map (place.Extra p.id) (range_with_len 0 p.extra)) =
         ap named_places_of is_p ∙ (ap (λ (o : Option RingSlots). named_tx_places p.id o ++ (named_ring_places p.id p.rx ++ map (place.Extra p.id) (range_with_len 0 p.extra))) x.on
         ∙ ap (λ (i : PortId). named_ring_places i r ++ (named_ring_places p.id p.rx ++ map (place.Extra p.id) (range_with_len 0 p.extra))) x.has.same_id) in
@@ -343,15 +344,15 @@ module _ (h : HoldState) (ports : List UserPort) (id : PortId) (p : UserPort) (r
       where
         none_of : (all : List UserPort) → AllByRecursion (IsOther id.0) all → AllByRecursion (CanAccept id.0 taken) all
         none_of [] other = tt
-        none_of (y ∷ all) other = ((λ e. false_true (sym other.0 ∙ same_eq y.id.0 id.0 e)), none_of all other.1)
+        none_of (y ∷ all) other = ((λ e. false_true (sym other.0 ∙ same_true y.id.0 id.0 e)), none_of all other.1)
 
         over : (all : List UserPort) → ArePortsOnce (map places_of_port all) → port_at all id.0 ≡ Some p → AllByRecursion (CanAccept id.0 taken) all
         over [] once there = absurd cc
         over (y ∷ all) once there = elim (cases_Bool (nat_eq y.id.0 id.0)) [
-          | inl here ↦ (let is_p : y ≡ p = some_is y p (rw here at there) in
+          | inl here ↦ (let is_p : y ≡ p = same_Some y p (rw here at there) in
               let tx_y : y.tx ≡ Some r = ap (λ (z : UserPort). z.tx) is_p ∙ x.on in
               ((λ e. rw tx_y can), none_of all (rest_other all id.0 (rw (nat_eq-is y.id.0 id.0 here) at once.0))))
-          | inr other ↦ ((λ e. false_true (sym other ∙ same_eq y.id.0 id.0 e)), over all once.1 (rw other at there))
+          | inr other ↦ ((λ e. false_true (sym other ∙ same_true y.id.0 id.0 e)), over all once.1 (rw other at there))
         ]
 
     abbrev moved : PortId → RingSlots → RingSlots
@@ -397,7 +398,7 @@ module _ (h : HoldState) (ports : List UserPort) (id : PortId) (p : UserPort) (r
           inside : (at : ℕ) → is_filled ports (place.Tx id at) ≡ true → at < r.ring.size
           inside at e =
               let one : is_filled_in (place.Tx id at) p ≡ true = sym (filled_one ports id.0 p (place.Tx id at) x.has.found once refl) ∙ e in
-              let two : nat_lt at r.ring.size ≡ true = (let test = rw (x.has.same_id, x.on, same_eq id.0 id.0 refl) at one in test) in
+              let two : nat_lt at r.ring.size ≡ true = (let test = rw (x.has.same_id, x.on, same_true id.0 id.0 refl) at one in test) in
               is_lt at r.ring.size two
             where
               is_lt : (a b : ℕ) → nat_lt a b ≡ true → a < b
@@ -433,7 +434,7 @@ module _ (h : HoldState) (ports : List UserPort) (id : PortId) (p : UserPort) (r
           → map (port_seen h3) (map (port_changed_if id.0 side.Tx moved) all) ≡ map (port_if id.0 (with_ring_on side.Tx g)) (map (port_seen h3) all)
       ports_seen g made [] once there = absurd cc
       ports_seen g made (y ∷ all) once there = elim (cases_Bool (nat_eq y.id.0 id.0)) [
-        | inl here ↦ (let is_p : y ≡ p = some_is y p (rw here at there) in
+        | inl here ↦ (let is_p : y ≡ p = same_Some y p (rw here at there) in
             let tx_y : y.tx ≡ Some r = ap (λ (z : UserPort). z.tx) is_p ∙ x.on in
             let id_y : y.id ≡ id = ap (λ (z : UserPort). z.id) is_p ∙ x.has.same_id in
             let rest = rest_other all id.0 (rw (nat_eq-is y.id.0 id.0 here) at once.0) in

@@ -3,9 +3,11 @@ use Rattle.std.proofs.Common.{ℕ, ◌≡◌, ◌≢◌, ◌-◌, Bool, true, fa
 use Rattle.std.specs.Prelude.{is_none, ◌↔◌}
 use Rattle.std.proofs.lemmas.Bool.{cases_Bool}
 use Rattle.std.proofs.lemmas.List.{length-set, get_or-set_same, get_or-set_other}
+use Rattle.std.proofs.lemmas.Option.{same_Some}
 use Rattle.nm_types.specs.declared.place.Place.{Place}
 use Rattle.nm_types.specs.Places.{is_same_place}
 use Rattle.nm_types.specs.Buffers.{IsBufferIndex}
+use Rattle.nm_types.proofs.Tests.{false_true, same_true}
 use Rattle.nm_region.specs.Buffers.{Buffer}
 use Rattle.nm_hold.specs.declared.standing.Standing.{Standing}
 use Rattle.nm_hold.specs.Holds.{HoldState, buffers_of, buffer_at, index_at, standing_at, with_cell, IsHold}
@@ -15,14 +17,10 @@ use Rattle.nm_port.specs.declared.port.UserPort.{UserPort}
 use Rattle.nm_port.specs.Own.{own_seen, bytes_in_cell, AreWhole}
 use Rattle.nm_port.specs.Filling.{placed}
 use Rattle.nm_own.specs.Opening.{IsNew}
-use Rattle.nm_port.proofs.Judging.{false_true, same_eq}
 use Rattle.nm_port.proofs.Filling.{within_pool}
 use Rattle.nm_port.proofs.Seeing.{map-set}
 use Rattle.nm_port.proofs.Checked.{bytes_are_seen}
 use Rattle.nm_own.proofs.Readied.{away_of}
-
-some_same : {X : Type 0} (x y : X) → Some x ≡ Some y → x ≡ y
-some_same x y e = cc
 
 -- an index of the pool at which nothing stands is that of a new buffer
 pub new_if : (h : HoldState) (ports : List UserPort) (idx : ℕ) (b : Bool) → AreWhole h → b ≡ is_none (buffer_at h idx) → IsBufferIndex (buffers_of h) idx → (b ≡ true) ↔ IsNew (own_seen h ports) idx
@@ -40,11 +38,11 @@ module _ (h new : HoldState) (place : Place) (named : Bool) (buf : Buffer) (is :
   stands_here i s there e =
       let same : buf.index ≡ i = nat_eq-is buf.index i e in
       let stands : standing_at new i ≡ Some (placed place named buf) = ap (standing_at new) (sym same) ∙ (ap (λ (n : HoldState). standing_at n buf.index) cell ∙ get_or-set_same h.cells buf.index (Some (placed place named buf)) None (within_pool h buf.index is index)) in
-      some_same (placed place named buf) s (sym stands ∙ there)
+      same_Some (placed place named buf) s (sym stands ∙ there)
 
   pub stood_there : (i : ℕ) (s : Standing) → standing_at new i ≡ Some s → nat_eq buf.index i ≡ false → standing_at h i ≡ Some s
   stood_there i s there e =
-      let other : i ≢ buf.index = (λ same. false_true (sym e ∙ same_eq buf.index i (sym same))) in
+      let other : i ≢ buf.index = (λ same. false_true (sym e ∙ same_true buf.index i (sym same))) in
       sym (ap (λ (n : HoldState). standing_at n i) cell ∙ get_or-set_other h.cells buf.index i (Some (placed place named buf)) None other) ∙ there
 
   pub bytes_with_one : map bytes_in_cell new.cells ≡ set (map bytes_in_cell h.cells) buf.index buf.bytes

@@ -7,6 +7,7 @@ use Rattle.nm_types.specs.Places.{held_at}
 use Rattle.nm_types.specs.Positions.{IsRingSize}
 use Rattle.nm_types.specs.SyncChecks.{contains_index}
 use Rattle.nm_types.specs.OwnPorts.{port_with_id, bytes_at}
+use Rattle.nm_types.proofs.Lists.{each-front, each-back}
 use Rattle.nm_hold.specs.declared.standing.Standing.{Standing}
 use Rattle.nm_hold.specs.declared.table.PortPlaces.{PortPlaces}
 use Rattle.nm_hold.specs.Offsets.{has_place, has_port}
@@ -38,18 +39,10 @@ all_map : {X : Type 0} (P Q : X → Type 0) (xs : List X) → ((x : X) → P x �
 all_map P Q [] f all = tt
 all_map P Q (x ∷ xs) f all = (f x all.0, all_map P Q xs f all.1)
 
-all_left : {X : Type 0} (P : X → Type 0) (xs ys : List X) → AllByRecursion P (xs ++ ys) → AllByRecursion P xs
-all_left P [] ys all = tt
-all_left P (x ∷ xs) ys all = (all.0, all_left P xs ys all.1)
-
-all_right : {X : Type 0} (P : X → Type 0) (xs ys : List X) → AllByRecursion P (xs ++ ys) → AllByRecursion P ys
-all_right P [] ys all = all
-all_right P (x ∷ xs) ys all = all_right P xs ys all.1
-
 pub distinct_left : (xs ys : List ℕ) → IsDistinct nat_eq (xs ++ ys) → IsDistinct nat_eq xs
 unfolding IsDistinct
 distinct_left [] ys once = tt
-distinct_left (x ∷ xs) ys once = (all_left (λ y. nat_eq x y ≡ false) xs ys once.0, distinct_left xs ys once.1)
+distinct_left (x ∷ xs) ys once = (each-front (λ y. nat_eq x y ≡ false) xs ys once.0, distinct_left xs ys once.1)
 
 pub distinct_right : (xs ys : List ℕ) → IsDistinct nat_eq (xs ++ ys) → IsDistinct nat_eq ys
 unfolding IsDistinct
@@ -64,7 +57,7 @@ none_first [] ys once = none_in ys
     none_in : (zs : List ℕ) → AllByRecursion (λ y. contains_index [] y ≡ false) zs
     none_in [] = tt
     none_in (z ∷ zs) = (refl, none_in zs)
-none_first (x ∷ xs) ys once = both ys (all_right (λ y. nat_eq x y ≡ false) xs ys once.0) (none_first xs ys once.1)
+none_first (x ∷ xs) ys once = both ys (each-back (λ y. nat_eq x y ≡ false) xs ys once.0) (none_first xs ys once.1)
   where
     both : (zs : List ℕ) → AllByRecursion (λ y. nat_eq x y ≡ false) zs → AllByRecursion (λ y. contains_index xs y ≡ false) zs → AllByRecursion (λ y. contains_index (x ∷ xs) y ≡ false) zs
     both [] one two = tt
@@ -118,7 +111,7 @@ module _ (h h1 : HoldState) (ports : List UserPort) (id : PortId) (rx : ℕ) (tx
   slots_belong at below = rw r.places (has_row h.ports id (record { tx = length tx; rx = rx; extra = length extra }) Slots at below)
 
   pub slots_away : AllByRecursion (IsAway h1) tx
-  slots_away = all_left (IsAway h1) tx extra r.away
+  slots_away = each-front (IsAway h1) tx extra r.away
 
   module _ (h2 : HoldState) (filled : AreFilledWith h1 h2 id Slots (length tx - 1) 0 tx) where
     pub extras_belong : (at : ℕ) → at < length extra → has_place h2.ports (place_in id Extras at) ≡ true
@@ -128,7 +121,7 @@ module _ (h h1 : HoldState) (ports : List UserPort) (id : PortId) (rx : ℕ) (tx
     extras_empty at = filled.index (place_in id Extras at) ∙ (index_off id Slots 0 tx (place_in id Extras at) (index_at h1 (place_in id Extras at)) (λ k. refl) ∙ r.empty Extras at)
 
     pub extras_away : IsDistinct nat_eq (tx ++ extra) → AllByRecursion (IsAway h2) extra
-    extras_away once = both extra (all_right (IsAway h1) tx extra r.away) (none_first tx extra once)
+    extras_away once = both extra (each-back (IsAway h1) tx extra r.away) (none_first tx extra once)
       where
         both : (xs : List ℕ) → AllByRecursion (IsAway h1) xs → AllByRecursion (λ y. contains_index tx y ≡ false) xs → AllByRecursion (IsAway h2) xs
         both [] one two = tt

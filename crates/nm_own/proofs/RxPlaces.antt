@@ -12,6 +12,7 @@ use Rattle.nm_types.specs.Places.{is_same_place}
 use Rattle.nm_types.specs.Positions.{RingState, IsRing, FitsRing, dist, step_on, user_slots, is_user_slot}
 use Rattle.nm_types.specs.OwnPorts.{OwnRing}
 use Rattle.nm_types.proofs.RingSteps.{dist-below, dist_split, seen_from}
+use Rattle.nm_types.proofs.Tests.{both_are, less_is, or_first, or_second}
 use Rattle.nm_hold.specs.Holds.{HoldState, port_of}
 use Rattle.nm_port.specs.declared.port.UserPort.{UserPort}
 use Rattle.nm_port.specs.RingSlots.{RingSlots}
@@ -21,7 +22,6 @@ use Rattle.nm_port.specs.Exchanges.{is_among}
 use Rattle.nm_port.proofs.Seeing.{map-same}
 use Rattle.nm_port.proofs.SlotLists.{tail_stays}
 use Rattle.nm_port.proofs.Ranges.{is_slot_from, among_slots}
-use Rattle.nm_own.proofs.Tests.{or_second, or_first, less_is, and-is}
 use Rattle.nm_own.proofs.Closing.{Has}
 use Rattle.nm_own.proofs.OnePort.{IsLike, tx_side_of, tx_ring_of}
 use Rattle.nm_own.proofs.Pushed.{flag_is}
@@ -48,7 +48,7 @@ none_below c = grind (arith, nat_tests)
 module _ (id : PortId) (r : RingSlots) (side : r.side ≡ Rx) (is : IsRing r.ring) where
   pub ring_named : (at : ℕ) → is_user_slot r.ring at ≡ true → is_among (named_ring_places id r) (place.Rx id at) ≡ true
   ring_named at user =
-      let both = and-is (nat_lt at r.ring.size) (nat_lt (dist r.ring.size r.ring.accepted_head at) (dist r.ring.size r.ring.accepted_head r.ring.last_tail)) user in
+      let both = both_are (nat_lt at r.ring.size) (nat_lt (dist r.ring.size r.ring.accepted_head at) (dist r.ring.size r.ring.accepted_head r.ring.last_tail)) user in
       let inside = less_is at r.ring.size both.0 in
       let few = dist-below r.ring.size r.ring.accepted_head r.ring.last_tail is.accepted in
       rw side (among_slots Rx id (user_slots r.ring) at ∙ (is_slot_from r.ring.size r.ring.accepted_head (dist r.ring.size r.ring.accepted_head r.ring.last_tail) at is.accepted (omega arith) inside ∙ both.1))
@@ -69,7 +69,7 @@ port_is port id e = ap (λ (n : ℕ). let i : PortId = record { 0 = n } in i) (s
 
 pub filled_named : (p : UserPort) (port : PortId) (at : ℕ) → p.rx.side ≡ Rx → IsRing p.rx.ring → is_filled_in (place.Rx port at) p ≡ true → is_among (named_places_of p) (place.Rx port at) ≡ true
 filled_named p port at side is filled =
-    let both = and-is (nat_eq port.0 p.id.0) (is_user_slot p.rx.ring at) filled in
+    let both = both_are (nat_eq port.0 p.id.0) (is_user_slot p.rx.ring at) filled in
     ap (λ (i : PortId). is_among (named_places_of p) (place.Rx i at)) (sym (port_is port p.id both.0)) ∙ rx_named p at side is both.1
 
 -- a port with another receive ring

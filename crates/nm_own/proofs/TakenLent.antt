@@ -10,6 +10,7 @@ use Rattle.nm_types.specs.Positions.{step_on, slots_from, kernel_count}
 use Rattle.nm_types.specs.Buffers.{IsBufferIndex}
 use Rattle.nm_types.specs.OwnSyncs.{own_after_put}
 use Rattle.nm_types.proofs.RingSteps.{dist-step_on, step_on-below}
+use Rattle.nm_types.proofs.Tests.{less_true, same_true}
 use Rattle.nm_region.specs.Buffers.{Buffer, indices_of}
 use Rattle.nm_hold.specs.declared.standing.Standing.{Standing}
 use Rattle.nm_hold.specs.Standings.{buf_in}
@@ -30,8 +31,6 @@ use Rattle.nm_port.specs.Exchanges.{AreRenamed, tx_places, pushed_count_of}
 use Rattle.nm_port.specs.Puts.{offered_slot, cleared, ring_taken}
 use Rattle.nm_port.specs.Lending.{Run, AreOut, place_of_run}
 use Rattle.nm_own.specs.LentSides.{pending_count_of, offered_count_of}
-use Rattle.nm_port.proofs.Judging.{same_eq}
-use Rattle.nm_own.proofs.Tests.{less_true}
 use Rattle.nm_own.proofs.OnePort.{Among, ChangesPort, changed_are, kept_with}
 use Rattle.nm_port.proofs.Buffers.{buf_by_index, count_by_bufs}
 use Rattle.nm_own.proofs.Passing.{ring_is, own_side}
@@ -158,7 +157,7 @@ module _ (l : LentOffers) (r : RingSlots) (s : SideState) (lent : List Buffer) (
     belongs_each : (k : ℕ) → has_place went.0.ports (place_of_run run k) ≡ true
     belongs_each k =
         let here = has_place_of l.lent.ports.items l.port.0 w.p (place.Tx l.port (step_on size (offered_slot r.ring) k)) w.passes.has.found
-        (rw (w.passes.has.same_id, w.passes.on, same_eq l.port.0 l.port.0 refl, less_true (step_on size (offered_slot r.ring) k) size (inside k)) refl) in
+        (rw (w.passes.has.same_id, w.passes.on, same_true l.port.0 l.port.0 refl, less_true (step_on size (offered_slot r.ring) k) size (inside k)) refl) in
         rw (taken_out.ports, w.exchange.ports, w.passes.has.places, own_side w.was l.lent.ports.items Tx l.port w.p r w.passes) here
 
     empty_each : (k : ℕ) → k < count → index_at went.0 (place_of_run run k) ≡ None

@@ -16,6 +16,7 @@ use Rattle.nm_types.specs.Slots.{SlotState}
 use Rattle.nm_types.specs.OwnPorts.{OwnRing, with_ring_on}
 use Rattle.nm_types.specs.OwnSyncs.{slots_after_push, with_slot_refilled, with_place_refilled, ring_after_put, taken_slots, taken_on, after_exchange, with_arrival, without_bytes_of, bytes_after, buffers_of_arrivals, own_after_put}
 use Rattle.nm_types.proofs.RingSteps.{dist-below, dist_behind, dist_split, step_on-below}
+use Rattle.nm_types.proofs.Tests.{less_is, turned, same_true}
 use Rattle.nm_region.specs.Buffers.{Buffer, indices_of}
 use Rattle.nm_hold.specs.declared.standing.Standing.{Standing}
 use Rattle.nm_hold.specs.Offsets.{ArePortsOnce}
@@ -33,11 +34,10 @@ use Rattle.nm_port.specs.Exchanges.{is_among, named_after_push, AreExchanged, Ar
 use Rattle.nm_port.specs.Puts.{offered_slot, with_slot_named, ring_taken}
 use Rattle.nm_port.specs.Lending.{Run, AreOut}
 use Rattle.nm_own.specs.LentSides.{pending_count_of, offered_count_of}
-use Rattle.nm_port.proofs.Judging.{same_eq}
 use Rattle.nm_port.proofs.PortOut.{IsOther}
 use Rattle.nm_port.proofs.SlotLists.{accepted_ring}
 use Rattle.nm_port.proofs.Seeing.{map-same, port_same}
-use Rattle.nm_own.proofs.Tests.{turned, less_is, some_of, some_true}
+use Rattle.nm_own.proofs.Tests.{some_of, some_true}
 use Rattle.nm_own.proofs.Closing.{sided_one, ring_one}
 use Rattle.nm_port.proofs.Buffers.{cells_by_bufs, count_by_bufs, whole_by_bufs}
 use Rattle.nm_port.proofs.Pushes.{offered_are}
@@ -81,7 +81,7 @@ refilled_are f g n (at ∷ ats) within same =
     next j = if nat_eq j at then f at else g j
 
     here : next (0 + at) ≡ f at
-    here = let first : 0 + at ≡ at = omega arith in ap next first ∙ rw (same_eq at at refl) refl
+    here = let first : 0 + at ≡ at = omega arith in ap next first ∙ rw (same_true at at refl) refl
 
     others : (j : ℕ) → nat_eq j (0 + at) ≡ false → next j ≡ g j
     others j other = let first : 0 + at ≡ at = omega arith in rw (rw first at other) refl
@@ -259,7 +259,7 @@ module _ (h : HoldState) (ports : List UserPort) (id : PortId) (p : UserPort) (r
           flags_all i s there ∙ sym (named_now q at (λ n e. inside n (sym (ap (λ (y : Place). is_filled_in y p) e) ∙ filled)))
         where
           inside : (at : ℕ) → is_filled_in (place.Tx id at) p ≡ true → at < size
-          inside at e = less_is at size (rw (x.has.same_id, x.on, same_eq id.0 id.0 refl) at e)
+          inside at e = less_is at size (rw (x.has.same_id, x.on, same_true id.0 id.0 refl) at e)
 
       flags_elsewhere : (i : ℕ) (s : Standing) → standing_at h4 i ≡ Some s → nat_eq (port_of s.home.place) id.0 ≡ false → s.home.named ≡ is_among (named_places ports) s.home.place
       flags_elsewhere i s there other =

@@ -2,14 +2,12 @@
 use Rattle.std.proofs.Common.{ℕ, zero, suc, ◌≡◌, ◌-◌, List, [], ◌∷◌, length, map, Option, Some, None, refl, sym, ◌∙◌, ap}
 use Rattle.std.specs.Option.{option_map_or}
 use Rattle.std.proofs.lemmas.List.{length-map}
+use Rattle.std.proofs.lemmas.Option.{same_Some}
 use Rattle.nm_region.specs.Buffers.{Buffer}
 use Rattle.nm_hold.specs.declared.standing.Standing.{Standing}
 use Rattle.nm_hold.specs.Standings.{buf_in}
 use Rattle.nm_hold.specs.Holds.{HoldState, buffers_of, bufs_of, standing_at, cell_at}
 use Rattle.nm_port.specs.Own.{bytes_in_cell, AreWhole}
-
-some_is : {X : Type 0} (x y : X) → Some x ≡ Some y → x ≡ y
-some_is x y e = cc
 
 -- bytes, by the buffers of the cells
 abbrev bytes_in_buf : Option Buffer → List ℕ
@@ -42,5 +40,5 @@ module _ (h now : HoldState) (bufs : bufs_of now ≡ bufs_of h) where
       by_cell : (o : Option Standing) → standing_at h i ≡ o → Some s.buf ≡ buf_in (standing_at h i) → length s.buf.bytes ≡ 2048
       by_cell None e same = absurd (let none = same ∙ ap buf_in e in cc)
       by_cell (Some t) e same =
-          let is : s.buf ≡ t.buf = some_is s.buf t.buf (same ∙ ap buf_in e) in
+          let is : s.buf ≡ t.buf = same_Some s.buf t.buf (same ∙ ap buf_in e) in
           ap (λ (b : Buffer). length b.bytes) is ∙ whole i t e

@@ -7,6 +7,7 @@ use Rattle.std.proofs.lemmas.Bool.{cases_Bool, cases_lt}
 use Rattle.std.proofs.lemmas.Bool.Decides.{nat_tests}
 use Rattle.std.proofs.lemmas.List.{get_or_at, drop_more, length-map, length-take-le}
 use Rattle.std.proofs.lemmas.List.Sums.{fold-append}
+use Rattle.std.proofs.lemmas.Option.{same_Some}
 use Rattle.nm_types.specs.declared.id.PortId.{PortId}
 use Rattle.nm_types.specs.declared.id.Side.{Side}
 use Rattle.nm_types.specs.declared.id.Side.TheVariants.{Tx, Rx}
@@ -19,6 +20,7 @@ use Rattle.nm_types.specs.OwnPorts.{OwnRing, OwnPort, ring_on}
 use Rattle.nm_types.specs.OwnSyncs.{ring_swapped, port_swapped, buffer_on, after_slot}
 use Rattle.nm_types.proofs.Exchanges.{held_at-exchanged, swapped-first, swapped-other}
 use Rattle.nm_types.proofs.RingSteps.{dist-below, dist-step_on}
+use Rattle.nm_types.proofs.Tests.{false_true}
 use Rattle.nm_hold.specs.declared.standing.Standing.{Standing}
 use Rattle.nm_region.specs.Buffers.{Buffer}
 use Rattle.nm_hold.specs.Standings.{buf_in}
@@ -36,10 +38,6 @@ use Rattle.nm_port.specs.Exchanges.{IsNamedThere, pushed_count_of, user_position
 use Rattle.nm_port.proofs.Seeing.{buffer_seen, ports_same}
 use Rattle.nm_port.proofs.Pushes.{seen_more}
 use Rattle.nm_port.proofs.Checked.{side_found}
-use Rattle.nm_port.proofs.Judging.{false_true}
-
-some_is : {X : Type 0} (x y : X) → Some x ≡ Some y → x ≡ y
-some_is x y e = cc
 
 -- two indices that have changed places
 swapped_zero : (a b : ℕ) → 2 ≤ a → 2 ≤ b → swapped a b 0 ≡ 0
@@ -51,7 +49,7 @@ swapped_back a b i = grind (arith, nat_tests)
 unswapped : (a b i : ℕ) (o : Option ℕ) → option_map (swapped a b) o ≡ Some i → o ≡ Some (swapped a b i)
 unswapped a b i None e = cc
 unswapped a b i (Some x) e =
-    let same : swapped a b x ≡ i = some_is (swapped a b x) i e in
+    let same : swapped a b x ≡ i = same_Some (swapped a b x) i e in
     ap (λ (n : ℕ). Some n) (sym (swapped_back a b x) ∙ ap (swapped a b) same)
 
 same_for_swapped : (f : ℕ → Bool) (a b i : ℕ) → f a ≡ true → f b ≡ true → f (swapped a b i) ≡ f i

@@ -1,9 +1,10 @@
 -- Buffers that come into the empty places of a row, one after another.
-use Rattle.std.proofs.Common.{ℕ, ◌≡◌, ◌≢◌, ◌<◌, ◌+◌, ◌-◌, ◌||◌, Bool, true, false, nat_eq, nat_lt, if◌then◌else◌, List, [], ◌∷◌, ◌++◌, length, map, set, drop, replicate, Option, Some, None, inl, inr, refl, sym, ◌∙◌, ap, arith, subst, append_assoc, length-append}
+use Rattle.std.proofs.Common.{ℕ, ◌≡◌, ◌≢◌, ◌<◌, ◌+◌, ◌-◌, Bool, true, false, nat_eq, nat_lt, if◌then◌else◌, List, [], ◌∷◌, ◌++◌, length, map, set, drop, replicate, Option, Some, None, inl, inr, refl, sym, ◌∙◌, ap, arith, subst, append_assoc, length-append}
 use Rattle.std.specs.List.{AllByRecursion, IsDistinct}
-use Rattle.std.proofs.lemmas.Bool.{cases_Bool}
+use Rattle.std.proofs.lemmas.Bool.{cases_Bool, or_parts}
 use Rattle.std.proofs.lemmas.Bool.Decides.{nat_tests}
 use Rattle.std.proofs.lemmas.List.{length-set, length-drop, length-replicate, get_or-set_same, get_or-set_other, map-append}
+use Rattle.std.proofs.lemmas.Option.{same_Some}
 use Rattle.nm_types.specs.declared.id.PortId.{PortId}
 use Rattle.nm_types.specs.declared.place.Place.{Place}
 use Rattle.nm_types.specs.declared.place.Place.TheVariants.{Tx, Extra}
@@ -11,6 +12,7 @@ use Rattle.nm_types.specs.Places.{is_same_place}
 use Rattle.nm_types.specs.Buffers.{IsBufferIndex}
 use Rattle.nm_types.specs.Chain.{chain_head}
 use Rattle.nm_types.specs.SyncChecks.{contains_index}
+use Rattle.nm_types.proofs.Tests.{false_true}
 use Rattle.nm_region.specs.Buffers.{Buffer, indices_of}
 use Rattle.nm_hold.specs.declared.standing.Standing.{Standing}
 use Rattle.nm_hold.specs.Holds.{HoldState, buffers_of, index_at, standing_at, with_cell, IsHold}
@@ -20,15 +22,11 @@ use Rattle.nm_port.specs.declared.fill.Row.TheVariants.{Slots, Extras}
 use Rattle.nm_port.specs.Own.{bytes_in_cell, AreWhole}
 use Rattle.nm_port.specs.Regions.{IsBufferOf, AreOf}
 use Rattle.nm_port.specs.Filling.{place_in, first_bytes, placed, index_with, named_with, FlaggedBy, AreFilledWith, ArePartlyIn, IsAway}
-use Rattle.nm_port.proofs.Judging.{false_true}
 use Rattle.nm_port.proofs.Regions.{holds_added}
 use Rattle.nm_port.proofs.Seeing.{map-set}
 
 some_none : {X : Type 0} (x : X) → Some x ≡ None → ⊥
 some_none x e = cc
-
-some_same : {X : Type 0} (x y : X) → Some x ≡ Some y → x ≡ y
-some_same x y e = cc
 
 pub within_pool : (h : HoldState) (idx : ℕ) → IsHold h → IsBufferIndex (buffers_of h) idx → idx < length h.cells
 within_pool h idx is index = let pool = is.pool in omega (arith, pool.0, index.1)
@@ -86,10 +84,6 @@ finds_room h now port row named all rest done x whole filled empty away once =
       apart = filled.others x.index apart ∙ here.1;
     }
 
-or_false : (a b : Bool) → (a || b) ≡ false → (a ≡ false) × (b ≡ false)
-or_false true b e = cc
-or_false false b e = (refl, e)
-
 -- a buffer that comes has all its bytes
 zeros_length : (n v : ℕ) → length (replicate n v) ≡ n
 zeros_length n v = length-replicate n v
@@ -111,7 +105,7 @@ pub fill_next : (h now new : HoldState) (port : PortId) (row : Row) (named at : 
     → AreFilledWith h new port row named at (x.index ∷ done)
 fill_next h now new port row named at done x filled room bytes cell places is = record {
   index = λ q. places q ∙ ap (λ (o : Option ℕ). if is_same_place (place_in port row at) q then Some x.index else o) (filled.index q);
-  others = λ i other. (let both = or_false (nat_eq x.index i) (contains_index done i) other in
+  others = λ i other. (let both = or_parts (nat_eq x.index i) (contains_index done i) other in
       ap (λ (s : HoldState). standing_at s i) cell ∙ (get_or-set_other now.cells x.index i (Some here) None (λ e. false_true (sym both.0 ∙ same_true x.index i (sym e))) ∙ filled.others i both.1));
   bytes = ap (λ (s : HoldState). map bytes_in_cell s.cells) cell ∙ (map-set bytes_in_cell now.cells x.index (Some here) ∙ (ap (λ (b : List ℕ). set (map bytes_in_cell now.cells) x.index b) bytes
       ∙ ap (λ (all : List (List ℕ)). set all x.index (first_bytes row (chain_head done))) filled.bytes));
@@ -133,7 +127,7 @@ fill_next h now new port row named at done x filled room bytes cell places is = 
         let same : x.index ≡ idx = nat_eq-is x.index idx e in
         let within = within_pool now x.index filled.is_hold room.index in
         let stands : standing_at new idx ≡ Some here = ap (standing_at new) (sym same) ∙ (ap (λ (n : HoldState). standing_at n x.index) cell ∙ get_or-set_same now.cells x.index (Some here) None within) in
-        some_same here s (sym stands ∙ there)
+        same_Some here s (sym stands ∙ there)
 
     stood_there : (idx : ℕ) (s : Standing) → standing_at new idx ≡ Some s → nat_eq x.index idx ≡ false → standing_at now idx ≡ Some s
     stood_there idx s there e =

@@ -1,7 +1,6 @@
 -- The checks of pushed slots, one behind the other, and the marks of the buffers that they name.
 use Rattle.std.proofs.Common.{ℕ, zero, suc, ◌≡◌, ◌≢◌, ◌<◌, Bool, true, false, nat_eq, List, [], ◌∷◌, ◌++◌, length, take, get_or, set, replicate, if◌then◌else◌, Option, Some, None, option_map, refl, sym, ◌∙◌, ap, arith, append_assoc}
 use Rattle.std.specs.Prelude.{◌||◌}
-use Rattle.std.proofs.lemmas.Bool.Decides.{nat_tests}
 use Rattle.std.proofs.Math.Bool.{or-true, or-false}
 use Rattle.std.proofs.lemmas.List.{append-nil, length-replicate, length-set, get_or-set_same, get_or-set_other, get_or-replicate, same_lists, get_or_read}
 use Rattle.std.proofs.lemmas.List.Folds.{list_any-append}
@@ -12,6 +11,7 @@ use Rattle.nm_types.specs.declared.fault.SyncFault.{SyncFault}
 use Rattle.nm_types.specs.Slots.{Pushed, pushed_names}
 use Rattle.nm_types.specs.SyncFaults.{slot_sync_fault}
 use Rattle.nm_types.specs.SyncChecks.{slots_refusal, slot_refusal, first_refusal, seen_of, contains_index}
+use Rattle.nm_types.proofs.Tests.{false_true, same_true}
 use Rattle.nm_port.specs.Sides.{AreMarked, AreMarkedOf, AreCleared}
 
 refusal-assoc : (a b c : Option SyncFault) → first_refusal (first_refusal a b) c ≡ first_refusal a (first_refusal b c)
@@ -46,12 +46,6 @@ refused_at side pool named xs ys x fault passed here =
 pub marked_none : (count : ℕ) → AreMarked (replicate count false) []
 marked_none count idx within = get_or-replicate count idx false false (rw length-replicate at within)
 
-pub same_eq : (a b : ℕ) → a ≡ b → nat_eq a b ≡ true
-same_eq a b e = grind (arith, nat_tests)
-
-pub false_true : {X : Type 0} → false ≡ true → X
-false_true e = cc
-
 pub contains_more : (names : List ℕ) (name idx : ℕ) → contains_index (names ++ name ∷ []) idx ≡ (contains_index names idx || nat_eq name idx)
 contains_more names name idx = list_any-append (λ (b : ℕ). nat_eq b idx) names (name ∷ []) ∙ ap (λ (b : Bool). contains_index names idx || b) (or-false (nat_eq name idx))
 
@@ -67,7 +61,7 @@ marked_more marks names name marked idx within =
         ap (λ (i : ℕ). get_or (set marks name true) i false) (sym at) ∙ (get_or-set_same marks name true false (rw at inside)
         ∙ sym (contains_more names name idx ∙ (ap (λ (b : Bool). contains_index names idx || b) e ∙ or-true (contains_index names idx))))
     contains inside false e =
-        let other : idx ≢ name = (λ same. false_true (sym e ∙ same_eq name idx (sym same))) in
+        let other : idx ≢ name = (λ same. false_true (sym e ∙ same_true name idx (sym same))) in
         get_or-set_other marks name idx true false other ∙ (marked idx inside
         ∙ sym (contains_more names name idx ∙ (ap (λ (b : Bool). contains_index names idx || b) e ∙ or-false (contains_index names idx))))
 
@@ -84,7 +78,7 @@ unmarked_next marks now done name count before idx within = contains (nat_eq nam
         let in_all : contains_index (done ++ name ∷ []) idx ≡ true = contains_more done name idx ∙ (ap (λ (b : Bool). contains_index done idx || b) e ∙ or-true (contains_index done idx)) in
         ap (λ (i : ℕ). get_or (set now name false) i false) (sym at) ∙ (get_or-set_same now name false false inside ∙ rw in_all refl)
     contains false e =
-        let other : idx ≢ name = (λ same. false_true (sym e ∙ same_eq name idx (sym same))) in
+        let other : idx ≢ name = (λ same. false_true (sym e ∙ same_true name idx (sym same))) in
         let in_all : contains_index (done ++ name ∷ []) idx ≡ contains_index done idx = contains_more done name idx ∙ (ap (λ (b : Bool). contains_index done idx || b) e ∙ or-false (contains_index done idx)) in
         get_or-set_other now name idx false false other ∙ (before idx within ∙ rw in_all refl)
 

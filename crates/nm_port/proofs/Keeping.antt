@@ -10,12 +10,13 @@ use Rattle.nm_types.specs.Positions.{IsRing, FitsRing, slots_from}
 use Rattle.nm_types.specs.Slots.{Pushed, pushed_names}
 use Rattle.nm_types.specs.SyncChecks.{is_tx, slots_refusal, seen_of, contains_index, PassesSlot}
 use Rattle.nm_types.proofs.SlotChecks.{slot_refusal-passes}
+use Rattle.nm_types.proofs.Tests.{false_true}
 use Rattle.nm_hold.specs.Holds.{HoldState, buffers_of, index_at, is_named_at, slot_on, IsHold, AreNumbers}
 use Rattle.nm_hold.proofs.Spots.{nat_eq-is}
 use Rattle.nm_port.specs.RingSlots.{RingSlots, slot_at}
 use Rattle.nm_port.specs.Sides.{place_on, number_at, name_at, pushed_seen_at, AreNamed, HaveNamed, IsPlain}
 use Rattle.nm_port.specs.Exchanges.{pushed_count_of, user_position, user_place, KeepAll}
-use Rattle.nm_port.proofs.Judging.{passed_more, contains_more, false_true}
+use Rattle.nm_port.proofs.Judging.{passed_more, contains_more}
 use Rattle.nm_port.proofs.Pushes.{pushed_is_user, seen_more}
 use Rattle.nm_port.proofs.Plain.{named_within}
 use Rattle.nm_port.proofs.Exchanged.{one_place, user_apart}

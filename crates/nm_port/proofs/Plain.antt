@@ -1,8 +1,8 @@
 -- A named buffer has the index of a buffer of the pool.
 use Rattle.std.proofs.Common.{ℕ, zero, suc, ◌≡◌, ◌≤◌, ◌<◌, ◌+◌, true, List, [], ◌∷◌, length, Option, Some, None, refl, ◌∙◌, sym, ap, arith}
+use Rattle.nm_types.proofs.Tests.{false_true}
 use Rattle.nm_hold.specs.declared.standing.Standing.{Standing}
 use Rattle.nm_hold.specs.Holds.{HoldState, buffers_of, standing_at, is_named_at, is_named_in, cell_at, IsHold}
-use Rattle.nm_port.proofs.Judging.{false_true}
 
 cell_within : (cells : List (Option Standing)) (idx : ℕ) (s : Standing) → cell_at cells idx ≡ Some s → idx < length cells
 cell_within [] idx s e = absurd cc

@@ -4,10 +4,12 @@ use Rattle.std.specs.Prelude.{IsSome, position, remove, drop}
 use Rattle.std.specs.List.{AllByRecursion, position_or_len}
 use Rattle.std.proofs.lemmas.Bool.{cases_Bool}
 use Rattle.std.proofs.lemmas.Bool.Decides.{nat_tests}
+use Rattle.std.proofs.lemmas.Option.{same_Some}
 use Rattle.nm_hold.specs.Offsets.{has_port, ArePortsOnce}
 use Rattle.nm_hold.specs.Holds.{HoldState}
 use Rattle.nm_hold.proofs.Spots.{nat_eq-is}
 use Rattle.nm_types.specs.OwnPorts.{port_with_id, OwnPort}
+use Rattle.nm_types.proofs.Tests.{less_is}
 use Rattle.nm_port.specs.declared.port.UserPort.{UserPort}
 use Rattle.nm_port.specs.Own.{own_seen, port_at, places_of_port, HasBackRoom, HaveBackRoom}
 use Rattle.nm_port.specs.Closing.{has_id, others}
@@ -36,12 +38,6 @@ port_not_found h ports id none some = none_some (rw (lacks_port h ports id none)
     none_some : IsSome {T = OwnPort} None → ⊥
     none_some some = cc
 
-some_is : {X : Type 0} (x y : X) → Some x ≡ Some y → x ≡ y
-some_is x y e = cc
-
-is_less : (a b : ℕ) → nat_lt a b ≡ true → a < b
-is_less a b e = grind (arith, nat_tests)
-
 is_no_less : (a b : ℕ) → nat_lt a b ≡ false → b ≤ a
 is_no_less a b e = grind (arith, nat_tests)
 
@@ -50,7 +46,7 @@ drop_none [] = refl
 drop_none (x ∷ xs) = refl
 
 found_by : (b : Bool) (n count at : ℕ) → nat_lt n count ≡ b → cond b (Some n) None ≡ Some at → (n ≡ at) × (n < count)
-found_by true n count at less e = (some_is n at e, is_less n count less)
+found_by true n count at less e = (same_Some n at e, less_is n count less)
 found_by false n count at less e = absurd cc
 
 missed_by : (b : Bool) (n count : ℕ) → nat_lt n count ≡ b → cond b (Some n) None ≡ None → count ≤ n
@@ -141,6 +137,6 @@ module _ (id : ℕ) where
   pub back_one : (ports : List UserPort) (p : UserPort) → port_at ports id ≡ Some p → HaveBackRoom ports → HasBackRoom p
   back_one [] p found have = absurd cc
   back_one (x ∷ ports) p found have = elim (cases_Bool (nat_eq x.id.0 id)) [
-    | inl here ↦ (let is : x ≡ p = some_is x p (rw here at found) in rw (← is) have.0)
+    | inl here ↦ (let is : x ≡ p = same_Some x p (rw here at found) in rw (← is) have.0)
     | inr other ↦ back_one ports p (rw other at found) have.1
   ]

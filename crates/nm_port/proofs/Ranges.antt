@@ -3,7 +3,7 @@ use Rattle.std.proofs.Common.{Bool, ap, arith, false, inl, inr, map, nat_eq, nat
 use Rattle.std.proofs.lemmas.Bool.{cases_Bool}
 use Rattle.nm_types.specs.Positions.{dist, slots_from, step_on}
 use Rattle.nm_types.proofs.RingSteps.{dist-step_on, step_on-dist}
-use Rattle.nm_port.proofs.Judging.{false_true, same_eq}
+use Rattle.nm_types.proofs.Tests.{false_true, same_true}
 use Rattle.std.specs.List.{list_any, range_with_len}
 use Rattle.nm_hold.proofs.Spots.{nat_eq-is}
 use Rattle.std.proofs.lemmas.Bool.Decides.{nat_tests}
@@ -27,11 +27,11 @@ is_slot_from size first n at f few inside = over 0 n (omega arith) ∙ from_zero
         by_test true e =
             let same : k ≡ dist size first at = nat_eq-is k (dist size first at) e in
             let there : step_on size first k ≡ at = (ap (step_on size first) same ∙ step_on-dist size first at f inside) in
-            same_eq (step_on size first k) at there
+            same_true (step_on size first k) at there
         by_test false e = elim (cases_Bool (nat_eq (step_on size first k) at)) [
           | inl same ↦ (let is : step_on size first k ≡ at = nat_eq-is (step_on size first k) at same in
               let k_is : k ≡ dist size first at = sym (dist-step_on size first k f below) ∙ ap (dist size first) is in
-              false_true (sym e ∙ same_eq k (dist size first at) k_is))
+              false_true (sym e ∙ same_true k (dist size first at) k_is))
           | inr other ↦ other
         ]
 
@@ -51,6 +51,6 @@ is_slot_from size first n at f few inside = over 0 n (omega arith) ∙ from_zero
 -- a place among slots of its side
 pub among_slots : (s : Side) (id : PortId) (ats : List ℕ) (at : ℕ) → is_among (map (place_on s id) ats) (place_on s id at) ≡ list_any (λ x. nat_eq x at) ats
 among_slots Tx id [] at = refl
-among_slots Tx id (x ∷ ats) at = rw (same_eq id.0 id.0 refl) (ap (λ (b : Bool). nat_eq x at || b) (among_slots Tx id ats at))
+among_slots Tx id (x ∷ ats) at = rw (same_true id.0 id.0 refl) (ap (λ (b : Bool). nat_eq x at || b) (among_slots Tx id ats at))
 among_slots Rx id [] at = refl
-among_slots Rx id (x ∷ ats) at = rw (same_eq id.0 id.0 refl) (ap (λ (b : Bool). nat_eq x at || b) (among_slots Rx id ats at))
+among_slots Rx id (x ∷ ats) at = rw (same_true id.0 id.0 refl) (ap (λ (b : Bool). nat_eq x at || b) (among_slots Rx id ats at))

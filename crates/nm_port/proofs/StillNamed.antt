@@ -13,6 +13,7 @@ use Rattle.nm_types.specs.declared.place.Place.TheVariants as place
 use Rattle.nm_types.specs.Places.{is_same_place}
 use Rattle.nm_types.specs.Positions.{IsRing, step_on, slots_from}
 use Rattle.nm_types.proofs.RingSteps.{step_on-step_on, slots_from-add}
+use Rattle.nm_types.proofs.Tests.{false_true}
 use Rattle.nm_hold.specs.declared.standing.Standing.{Standing}
 use Rattle.nm_hold.specs.Holds.{HoldState, index_at, standing_at, stands_at, is_named_at, is_named_in}
 use Rattle.nm_hold.proofs.Spots.{same_place-is}
@@ -20,7 +21,6 @@ use Rattle.nm_port.specs.RingSlots.{RingSlots}
 use Rattle.nm_port.specs.Sides.{place_on}
 use Rattle.nm_port.specs.Filling.{FlaggedBy}
 use Rattle.nm_port.specs.Exchanges.{IsNamedThere, pushed_count_of, user_position, user_place, CanExchange, AreExchanged, is_among, named_if, AreRenamed, tx_places, named_after_push, ArePushedOut}
-use Rattle.nm_port.proofs.Judging.{false_true}
 use Rattle.nm_port.proofs.Pushes.{seen_more}
 use Rattle.nm_port.proofs.Seeing.{ports_same}
 use Rattle.nm_port.proofs.Exchanged.{user_apart}

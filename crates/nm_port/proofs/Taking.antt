@@ -1,5 +1,5 @@
 -- The buffers in a port's places, taken out one after another.
-use Rattle.std.proofs.Common.{ℕ, zero, suc, ◌≡◌, ◌<◌, ◌≤◌, ◌+◌, ◌-◌, ◌&&◌, ◌||◌, Bool, true, false, nat_eq, nat_lt, if◌then◌else◌, List, [], ◌∷◌, ◌++◌, map, fold, set, Option, Some, None, inl, inr, refl, sym, ◌∙◌, ap, arith, append_assoc}
+use Rattle.std.proofs.Common.{ℕ, zero, suc, ◌≡◌, ◌<◌, ◌≤◌, ◌+◌, ◌-◌, ◌||◌, Bool, true, false, nat_eq, nat_lt, if◌then◌else◌, List, [], ◌∷◌, ◌++◌, map, fold, set, Option, Some, None, inl, inr, refl, sym, ◌∙◌, ap, arith, append_assoc}
 use Rattle.std.specs.Prelude.{unwrap_or, IsSome}
 use Rattle.std.specs.List.{list_any, range_with_len}
 use Rattle.std.proofs.lemmas.Bool.{cases_Bool}
@@ -15,6 +15,7 @@ use Rattle.nm_types.specs.Places.{is_same_place}
 use Rattle.nm_types.specs.Positions.{IsRing, dist, step_on, is_user_slot}
 use Rattle.nm_types.specs.OwnSyncs.{without_bytes_of}
 use Rattle.nm_types.proofs.RingSteps.{dist-below, dist-step_on, step_on-below, step_on-dist}
+use Rattle.nm_types.proofs.Tests.{both_are, both_true, less_false, less_is, less_true, or_second}
 use Rattle.nm_region.specs.Buffers.{Buffer}
 use Rattle.nm_hold.specs.declared.standing.Standing.{Standing}
 use Rattle.nm_hold.specs.Standings.{buf_in}
@@ -25,18 +26,6 @@ use Rattle.nm_port.specs.Sides.{number_at}
 use Rattle.nm_port.specs.Own.{size_if, bytes_in_cell, is_filled_in}
 use Rattle.nm_port.specs.Closing.{user_count, place_count, held_place, held_places, AreTaken}
 use Rattle.nm_port.proofs.Seeing.{map-set}
-
-both_true : (a b : Bool) → a ≡ true → b ≡ true → (a && b) ≡ true
-both_true a b e f = rw (e, f) refl
-
-less_true : (a b : ℕ) → a < b → nat_lt a b ≡ true
-less_true a b h = grind (arith, nat_tests)
-
-less_false : (a b : ℕ) → b ≤ a → nat_lt a b ≡ false
-less_false a b h = grind (arith, nat_tests)
-
-less_is : (a b : ℕ) → nat_lt a b ≡ true → a < b
-less_is a b e = grind (arith, nat_tests)
 
 not_less : (a b : ℕ) → nat_lt a b ≡ false → b ≤ a
 not_less a b e = grind (arith, nat_tests)
@@ -102,23 +91,18 @@ pub record Ranked (p : UserPort) (q : Place) : Type 0 where
   pub below : rank p q < place_count p
   pub there : held_place p (rank p q) ≡ q
 
-and-is : (a b : Bool) → (a && b) ≡ true → (a ≡ true) × (b ≡ true)
-and-is true true e = (refl, refl)
-and-is true false e = cc
-and-is false b e = cc
-
 port_is : (port id : PortId) → nat_eq port.0 id.0 ≡ true → id ≡ port
 port_is port id e = ap (λ (n : ℕ). let i : PortId = record { 0 = n } in i) (sym (nat_eq-is port.0 id.0 e))
 
 pub ranked : (p : UserPort) (q : Place) → IsRing p.rx.ring → is_filled_in q p ≡ true → Ranked p q
 ranked p (Tx port at) is filled =
-    let both = and-is (nat_eq port.0 p.id.0) (nat_lt at (size_if p.tx)) filled in
+    let both = both_are (nat_eq port.0 p.id.0) (nat_lt at (size_if p.tx)) filled in
     let below = less_is at (size_if p.tx) both.1 in
     record { below = omega arith; there = rw (both.1, port_is port p.id both.0) refl }
 ranked p (Rx port at) is filled =
     let ring = p.rx.ring in
-    let both = and-is (nat_eq port.0 p.id.0) (is_user_slot ring at) filled in
-    let user = and-is (nat_lt at ring.size) (nat_lt (dist ring.size ring.accepted_head at) (dist ring.size ring.accepted_head ring.last_tail)) both.1 in
+    let both = both_are (nat_eq port.0 p.id.0) (is_user_slot ring at) filled in
+    let user = both_are (nat_lt at ring.size) (nat_lt (dist ring.size ring.accepted_head at) (dist ring.size ring.accepted_head ring.last_tail)) both.1 in
     let within = less_is at ring.size user.0 in
     let below = less_is (dist ring.size ring.accepted_head at) (dist ring.size ring.accepted_head ring.last_tail) user.1 in
     let past = less_false (size_if p.tx + dist ring.size ring.accepted_head at) (size_if p.tx) (omega arith) in
@@ -126,7 +110,7 @@ ranked p (Rx port at) is filled =
     record { below = omega arith; there = rw (past, behind, user.1, step_on-dist ring.size ring.accepted_head at is.accepted within, port_is port p.id both.0) refl }
 ranked p (Extra port at) is filled =
     let ring = p.rx.ring in
-    let both = and-is (nat_eq port.0 p.id.0) (nat_lt at p.extra) filled in
+    let both = both_are (nat_eq port.0 p.id.0) (nat_lt at p.extra) filled in
     let below = less_is at p.extra both.1 in
     let past = less_false (size_if p.tx + user_count ring + at) (size_if p.tx) (omega arith) in
     let more = less_false (size_if p.tx + user_count ring + at - size_if p.tx) (user_count ring) (omega arith) in
@@ -136,10 +120,6 @@ ranked p (Extra port at) is filled =
 none_in : (f : ℕ → Place) (q : Place) (a n : ℕ) → ((k : ℕ) → k < a + n → is_same_place (f k) q ≡ false) → list_any (λ x. is_same_place x q) (map f (range_with_len a n)) ≡ false
 none_in f q a zero each = refl
 none_in f q a (suc n) each = rw (each a (omega arith), none_in f q (a + 1) n (λ k below. each k (omega arith))) refl
-
-or_second : (a b : Bool) → b ≡ true → (a || b) ≡ true
-or_second true b e = refl
-or_second false b e = e
 
 one_in : (f : ℕ → Place) (q : Place) (a n k : ℕ) → a ≤ k → k < a + n → is_same_place (f k) q ≡ true → list_any (λ x. is_same_place x q) (map f (range_with_len a n)) ≡ true
 one_in f q a zero k above below same = absurd (omega arith)

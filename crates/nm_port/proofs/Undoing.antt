@@ -3,6 +3,7 @@ use Rattle.std.proofs.Common.{nat_le, ℕ, zero, suc, ◌≡◌, ◌<◌, Bool, 
 use Rattle.std.specs.Prelude.{IsSome}
 use Rattle.std.proofs.lemmas.Bool.Decides.{nat_tests}
 use Rattle.std.proofs.lemmas.List.{length-set, reverse-append, length-reverse}
+use Rattle.std.proofs.lemmas.Option.{same_Some}
 use Rattle.nm_types.specs.Buffers.{IsBufferIndex}
 use Rattle.nm_types.specs.declared.id.PortId.{PortId}
 use Rattle.nm_types.specs.declared.place.Place.{Place}
@@ -27,9 +28,6 @@ use Rattle.nm_port.specs.Closing.{AreTaken}
 use Rattle.nm_port.specs.Lending.{AreChanged, AreSwapped, IsOut, Run, place_of_run, AreOut, AreNamedAs}
 use Rattle.nm_port.proofs.Buffers.{buf_by_index}
 use Rattle.nm_port.proofs.Ranges.{is_slot_from, among_slots}
-
-some_is : {X : Type 0} (x y : X) → Some x ≡ Some y → x ≡ y
-some_is x y e = cc
 
 -- the last of a list is the first of the list turned round
 pub last_first : {X : Type 0} (xs : List X) (x : X) → reverse (xs ++ x ∷ []) ≡ x ∷ reverse xs
@@ -56,7 +54,7 @@ module _ (a b : HoldState) (is_a : IsHold a) (is_b : IsHold b) (bufs : bufs_of a
       by_cells None (Some t) e f = absurd (let none = sym (ap buf_in e) ∙ (one ∙ ap buf_in f) in cc)
       by_cells (Some s) None e f = absurd (let none = sym (ap buf_in e) ∙ (one ∙ ap buf_in f) in cc)
       by_cells (Some s) (Some t) e f =
-          let buf : s.buf ≡ t.buf = some_is s.buf t.buf (sym (ap buf_in e) ∙ (one ∙ ap buf_in f)) in
+          let buf : s.buf ≡ t.buf = same_Some s.buf t.buf (sym (ap buf_in e) ∙ (one ∙ ap buf_in f)) in
           let name : s.home.named ≡ t.home.named = sym (ap is_named_in e) ∙ (named i ∙ ap is_named_in f) in
           let there : index_at b s.home.place ≡ Some i = sym (index s.home.place) ∙ (is_a.standing i s e).there in
           let place : s.home.place ≡ t.home.place = same_place-is s.home.place t.home.place (sym (ap (stands_at s.home.place) f) ∙ is_b.held s.home.place i there) in
@@ -177,7 +175,7 @@ module _ (h now : HoldState) (places : List Place) (before after : List Buffer) 
       by_cell : (o : Option Standing) → standing_at now buf.index ≡ o → o ≡ Some (placed q named buf)
       by_cell None e = absurd (let none = sym (ap buf_in e) ∙ stands in cc)
       by_cell (Some s) e =
-          let same : s.buf ≡ buf = some_is s.buf buf (sym (ap buf_in e) ∙ stands) in
+          let same : s.buf ≡ buf = same_Some s.buf buf (sym (ap buf_in e) ∙ stands) in
           let place : q ≡ s.home.place = same_place-is q s.home.place (sym (ap (stands_at q) e) ∙ taken.is_hold.held q buf.index there) in
           let name : s.home.named ≡ named = sym (ap is_named_in (taken.stood buf.index s e)) ∙ flag buf.index (sym stays ∙ there) in
           ap (λ (p : Place). Some (placed p s.home.named s.buf)) (sym place) ∙ (ap (λ (n : Bool). Some (placed q n s.buf)) name ∙ ap (λ (b : Buffer). Some (placed q named b)) same)

@@ -3,7 +3,7 @@ use Rattle.std.proofs.Common.{ℕ, zero, suc, ◌≡◌, ◌<◌, ◌≤◌, ◌
 use Rattle.std.specs.Prelude.{slice_get, slice_index_or}
 use Rattle.std.proofs.lemmas.Bool.Decides.{nat_tests}
 use Rattle.std.proofs.lemmas.List.{length-map}
-use Rattle.std.proofs.lemmas.Option.{unwrap_or-slice_get}
+use Rattle.std.proofs.lemmas.Option.{unwrap_or-slice_get, same_Some}
 use Rattle.nm_types.specs.declared.id.PortId.{PortId}
 use Rattle.nm_types.specs.declared.place.Place.{Place}
 use Rattle.nm_types.specs.Positions.{IsRing, slots_from}
@@ -21,9 +21,6 @@ use Rattle.nm_port.proofs.Keeping.{slot_is_place, index_from}
 use Rattle.nm_port.proofs.Exchanged.{none_exchanged, exchanged_next}
 use Rattle.nm_port.proofs.Undoing.{one_more_change}
 
-some_is : {X : Type 0} (x y : X) → Some x ≡ Some y → x ≡ y
-some_is x y e = cc
-
 -- a buffer that changes places with itself
 swapped_same : (a i : ℕ) → swapped a a i ≡ i
 swapped_same a i = grind (arith, nat_tests)
@@ -38,7 +35,7 @@ module _ (h : HoldState) (q : Place) (idx : ℕ) (there : index_at h q ≡ Some 
 
   same_named : (was i : ℕ) → index_at h q ≡ Some was → is_named_at h i ≡ is_named_at h (swapped was idx i)
   same_named was i stood =
-      let same : was ≡ idx = some_is was idx (sym stood ∙ there) in
+      let same : was ≡ idx = same_Some was idx (sym stood ∙ there) in
       ap (is_named_at h) (sym (ap (λ (w : ℕ). swapped w idx i) same ∙ swapped_same idx i))
 
 -- what the first pushed slots name

@@ -1,6 +1,7 @@
 -- What a history tells of a port's reads, as it goes on by entries that read nothing there.
 use Rattle.std.proofs.Common.{ℕ, suc, ◌+◌, ◌<◌, ◌≤◌, ◌≡◌, ◌==◌, ◌⊎◌, inl, inr, Bool, true, false, cond, List, [], ◌∷◌, ◌++◌, length, slice_get, Option, Some, None, option_map, refl, sym, ◌∙◌, ap, subst, arith, length-append, append_assoc, append-nil}
 use Rattle.std.proofs.lemmas.Bool.{eqb-true, cases_eq}
+use Rattle.std.proofs.lemmas.Option.{same_Some}
 use Rattle.nm_types.specs.declared.id.PortId.{PortId}
 use Rattle.vale_entry.specs.declared.entry.Ask.{Ask}
 use Rattle.vale_entry.specs.declared.entry.Ask.TheVariants.{Enter, Open, Send, Grant, Done, Sync, Reset, Shut, Finish, Leave, Put, PutKept, Get, Watch, Stat}
@@ -23,9 +24,6 @@ use Rattle.vale_own.proofs.OwnKept.{legal-split}
 use Rattle.nm_user.specs.PortReads.{reads_at, IsPortOf, ReadsNot}
 use Rattle.nm_user.proofs.Receives.{stepped}
 
-some-is : {X : Type 0} (x y : X) → Some x ≡ Some y → x ≡ y
-some-is x y e = cc
-
 some-none : {X : Type 0} (found : Option X) (x : X) → found ≡ None → found ≡ Some x → ⊥
 some-none found x none some = absurd cc
 
@@ -37,7 +35,7 @@ OwnedBy session found = (port : Port) → found ≡ Some port → port.session �
 owned-mapped : (session : ℕ) (change : Port → Port) → ((p : Port) → (change p).session ≡ p.session) → (found later : Option Port) → later ≡ option_map change found → OwnedBy session found → OwnedBy session later
 owned-mapped session change keeps None later e owned port is = absurd (some-none later port e is)
 owned-mapped session change keeps (Some old) later e owned port is =
-    let changed : change old ≡ port = some-is (change old) port (sym e ∙ is) in
+    let changed : change old ≡ port = same_Some (change old) port (sym e ∙ is) in
     sym (ap (λ (p : Port). p.session) changed) ∙ (keeps old ∙ owned old refl)
 
 owned-opened : (session : ℕ) (found : Option Port) (b : Bool) (new : Port) (later : Option Port) → later ≡ first_of found (cond b (Some new) None) → b ≡ false → OwnedBy session found → OwnedBy session later

@@ -2,7 +2,6 @@
 use Rattle.std.proofs.Common.{ℕ, suc, ◌+◌, ◌-◌, ◌<◌, ◌≤◌, ◌≡◌, ◌⊎◌, ◌==◌, Bool, true, false, ◌&&◌, nat_lt, List, [], ◌∷◌, ◌++◌, map, fold, take, length, get_or, Option, Some, None, option_map, refl, sym, ◌∙◌, ap, subst, arith, length-append, append_assoc}
 use Rattle.std.specs.Prelude.{option_and_then, if◌then◌else◌}
 use Rattle.std.proofs.lemmas.Bool.{eq-eqb}
-use Rattle.std.proofs.lemmas.Bool.Decides.{nat_tests}
 use Rattle.std.proofs.lemmas.List.{length-map, map-append, length-set, get_or-set_same as get_or-set}
 use Rattle.std.proofs.lemmas.List.Sums.{fold-append}
 use Rattle.std.proofs.Math.Seq.{get_or-append_seam, take-append_seam}
@@ -14,6 +13,7 @@ use Rattle.nm_types.specs.SyncChecks.{contains_index}
 use Rattle.nm_types.specs.OwnPorts.{OwnRing, OwnPort, OwnState, Arrival, bytes_at, blank_slot, port_with_id, ring_at, ring_on, slot_in, named_of, user_buffers_if}
 use Rattle.nm_types.specs.OwnSyncs.{published, with_arrival, buffers_of_arrivals}
 use Rattle.nm_types.proofs.RingSteps.{dist-below, dist-cases, step_on-cases, step_on-below}
+use Rattle.nm_types.proofs.Tests.{less_true}
 use Rattle.nm_own.specs.ExtraChain.{named_bytes}
 use Rattle.vale_entry.specs.Holdings.{contains}
 use Rattle.vale_entry.proofs.Counting.{count_of, count_of-cons, count_of-append}
@@ -40,9 +40,6 @@ dist-before size accepted tail back a t some few =
     found : (e d s size a t k back : ℕ) → e < size → d < size → s < size → k + back ≡ size → 1 ≤ back → back ≤ d → (a + d ≡ t) ⊎ (a + d ≡ t + size)
         → (s ≡ t + k) ⊎ (s + size ≡ t + k) → (a + e ≡ s) ⊎ (a + e ≡ s + size) → e ≡ d - back
     found e d s size a t k back el dl sl rest some few before stepped after = grind arith
-
-less-is : (a b : ℕ) → a < b → nat_lt a b ≡ true
-less-is a b e = grind (arith, nat_tests)
 
 -- a side whose port's receive ring ends with these frames, each in a buffer of its own
 pub record Came (s : OwnState) (id : ℕ) (came : List Arrival) : Type 0 where
@@ -88,11 +85,11 @@ module _ (s : OwnState) (id : ℕ) (done rest : List Arrival) (a : Arrival) (c :
 
   is-user : is_user_slot r.ring (before_tail back r.ring) ≡ true
   is-user =
-      let inside = less-is (before_tail back r.ring) r.ring.size (step_on-below r.ring.size r.ring.tail (r.ring.size - back) c.sound.positions.within) in
+      let inside = less_true (before_tail back r.ring) r.ring.size (step_on-below r.ring.size r.ring.tail (r.ring.size - back) c.sound.positions.within) in
       let n = reach in
       let far : dist r.ring.size r.ring.accepted_head r.ring.last_tail ≡ length ahead + back = ap (dist r.ring.size r.ring.accepted_head) (sym c.sound.positions.one_tail) ∙ n in
       let here = steps in
-      let near = less-is (dist r.ring.size r.ring.accepted_head (before_tail back r.ring)) (dist r.ring.size r.ring.accepted_head r.ring.last_tail) (omega (arith, far, here)) in
+      let near = less_true (dist r.ring.size r.ring.accepted_head (before_tail back r.ring)) (dist r.ring.size r.ring.accepted_head r.ring.last_tail) (omega (arith, far, here)) in
       both (nat_lt (before_tail back r.ring) r.ring.size) (nat_lt (dist r.ring.size r.ring.accepted_head (before_tail back r.ring)) (dist r.ring.size r.ring.accepted_head r.ring.last_tail)) inside near
     where
       both : (x y : Bool) → x ≡ true → y ≡ true → (x && y) ≡ true

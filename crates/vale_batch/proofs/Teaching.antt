@@ -1,6 +1,6 @@
 -- What was taught can be taken back, from the last to the first.
-use Rattle.std.proofs.Common.{ℕ, zero, suc, ◌≡◌, ◌+◌, List, [], ◌∷◌, ◌++◌, length, drop, set, Option, Some, None, arith, ◌∙◌, ap, sym}
-use Rattle.std.specs.Prelude.{fold, slice_get}
+use Rattle.std.proofs.Common.{ℕ, ◌≡◌, ◌+◌, List, [], ◌∷◌, ◌++◌, length, set, Option, Some, None, ◌∙◌, ap, sym}
+use Rattle.std.specs.Prelude.{fold}
 use Rattle.std.proofs.lemmas.List.{reverse-append, set-get_or}
 use Rattle.nm_types.specs.declared.id.Mac.{Mac}
 use Rattle.nm_types.specs.declared.id.PortId.{PortId}
@@ -31,11 +31,5 @@ pub known-learned : (entries : Entries) (address : Mac) (port : PortId) → port
 known-learned entries address port found =
     let held : entry_of entries address.0 ≡ Some (record { address = address; port = port }) = (found_where_held entries address port).0 found in
     ap (λ (seen : Option Station). set entries (bucket_of address.0) seen) (sym held) ∙ set-get_or entries (bucket_of address.0) None
-
--- the frame at a place stands before those behind it
-pub drop-at : {X : Type 0} (xs : List X) (i : ℕ) (x : X) → slice_get xs i ≡ Some x → drop i xs ≡ x ∷ drop (i + 1) xs
-drop-at [] i x is = absurd (let wrong : None ≡ Some x = is in cc)
-drop-at (y ∷ ys) zero x is = (let same : y ≡ x = cc in ap (λ z. z ∷ ys) same)
-drop-at (y ∷ ys) (suc i) x is = let next : suc i + 1 ≡ suc (i + 1) = omega arith in rw next (drop-at ys i x is)
 
 pub ruleset teaching = (untaught-last, untaught-learned)

@@ -10,6 +10,7 @@ use Rattle.std.proofs.lemmas.List.Sums.{sum_by-cons, count_by-le-length}
 use Rattle.std.proofs.lemmas.Bool.{cases_Bool, or_from, or_parts, and_parts, both_ways, eqb-true}
 use Rattle.nm_types.specs.Frames.{Frame}
 use Rattle.nm_types.specs.declared.id.PortId.{PortId}
+use Rattle.nm_types.proofs.Tests.{not_false}
 use Rattle.vale_learn.specs.AddressTable.{Entries, port_of_address}
 use Rattle.vale_batch.specs.Addresses.{is_short, is_group, destination_address}
 use Rattle.vale_batch.specs.declared.looking.Looked.{Looked}
@@ -122,17 +123,13 @@ pub none-changed : (to : PortId) (looked : Looked) (place : ℕ) (all : List Own
     → map (with_frame looked place) (map owned all) ≡ map owned all
 none-changed to looked place all only none = none-changed-in to looked place (map owned all) only none
 
-not-false : (b : Bool) → not b ≡ true → b ≡ false
-not-false true is = absurd (let wrong : false ≡ true = is in cc)
-not-false false is = refl
-
 pub one-changed : (to : PortId) (looked : Looked) (place : ℕ) (all : List Own) (at : ℕ) (own new : Own) → are_apart (map owned all) ≡ true → looked.destination ≡ Only to
     → at < length all → is_to to.0 (get_or all at own) ≡ true → own ≡ get_or all at own → owned new ≡ with_placed (placed_at place looked) (owned own)
     → map owned (slice_set all at new) ≡ map (with_frame looked place) (map owned all)
 one-changed to looked place [] at own new apart only within found is pushed = absurd (omega (arith, within))
 one-changed to looked place (w ∷ ws) zero own new apart only within found is pushed =
     let parts = and_parts (not (list_any (is_owned_by w.to.0) (map owned ws))) (are_apart (map owned ws)) apart in
-    let single = not-false (list_any (is_owned_by w.to.0) (map owned ws)) parts.0 in
+    let single = not_false (list_any (is_owned_by w.to.0) (map owned ws)) parts.0 in
     let same : w.to.0 ≡ to.0 = eqb-true w.to.0 to.0 found in
     let others : list_any (is_owned_by to.0) (map owned ws) ≡ false = ap (λ (n : ℕ). list_any (is_owned_by n) (map owned ws)) (sym same) ∙ single in
     let rest = none-changed to looked place ws only others in
@@ -140,7 +137,7 @@ one-changed to looked place (w ∷ ws) zero own new apart only within found is p
     ap (λ (x : Owned). x ∷ map owned ws) here ∙ ap (λ (xs : List Owned). with_frame looked place (owned w) ∷ xs) (sym rest)
 one-changed to looked place (w ∷ ws) (suc at) own new apart only within found is pushed =
     let parts = and_parts (not (list_any (is_owned_by w.to.0) (map owned ws))) (are_apart (map owned ws)) apart in
-    let single = not-false (list_any (is_owned_by w.to.0) (map owned ws)) parts.0 in
+    let single = not_false (list_any (is_owned_by w.to.0) (map owned ws)) parts.0 in
     let rest = one-changed to looked place ws at own new parts.1 only (omega (arith, within)) found is pushed in
     let other : is_to to.0 w ≡ false = elim (cases_Bool (is_to to.0 w)) [
       | inl here ↦

@@ -4,6 +4,7 @@ use Rattle.std.specs.List.{AllByRecursion as Each}
 use Rattle.std.proofs.lemmas.Bool.{eq-eqb, eqb-true, and_parts}
 use Rattle.std.proofs.lemmas.Option.{slice_get_within}
 use Rattle.nm_types.specs.declared.id.SessionId.{SessionId}
+use Rattle.nm_types.proofs.Lists.{each-front}
 use Rattle.vale_line.specs.declared.got.Got.{Got}
 use Rattle.vale_line.specs.Leased.{Leased, buffer_count}
 use Rattle.vale_line.specs.Gots.{buffers_of}
@@ -36,7 +37,6 @@ use Rattle.vale_steps.specs.Granting.{lease_id}
 use Rattle.vale_steps.specs.Offering.{IsFilledIn}
 use Rattle.vale_book.proofs.Moves.{Moves, before, owed-room, owed-promised, parts-stay, free-same}
 use Rattle.vale_book.proofs.PortLines.{IsLotOf, lots-of, of-lots, held-of}
-use Rattle.vale_steps.proofs.Lists.{each-left}
 use Rattle.vale_book.proofs.Standing.{ports-rising, found-some, not-found}
 
 -- ---- the port of a lease
@@ -173,7 +173,7 @@ done-of : (region id : ℕ) (filled : List Got) (p : PortState) → AreOf region
 done-of region id filled p of all =
     let own = IsBufferOf region in
     each-append own p.line.idle (buffers_of (held_gots (map (completed id filled) p.line.lots)))
-    (each-left own p.line.idle (buffers_of (held_gots p.line.lots)) all)
+    (each-front own p.line.idle (buffers_of (held_gots p.line.lots)) all)
     (of-lots region (map (completed id filled) p.line.lots) (done-lots region id filled p.line.lots of (lots-of region p.line.lots (held-of region p all))))
 
 pub lot-out : (b : Inside) (lease : Leased) (place : ℕ) → IsBook b → (l : IsLeaseAt b lease place) → lease.empty ≡ []

@@ -7,6 +7,7 @@ use Rattle.std.proofs.lemmas.Grind.{flat_map-append}
 use Rattle.nm_types.specs.Frames.{Frame, slots_of, size_of_frames}
 use Rattle.nm_types.specs.declared.id.PortId.{PortId}
 use Rattle.nm_types.specs.declared.id.SessionId.{SessionId}
+use Rattle.nm_types.proofs.Lists.{each-front, each-back}
 use Rattle.nm_pool.specs.Free.{PoolState}
 use Rattle.nm_count.specs.declared.tally.Tallied.{Tallied}
 use Rattle.nm_count.specs.Tallies.{counts_of, tally_after_add}
@@ -54,7 +55,7 @@ use Rattle.vale_own.specs.Recorded.{Recorded, standing, entry_of}
 use Rattle.vale_steps.specs.Granting.{given_by, grant_entry, lease_id}
 use Rattle.vale_steps.specs.Offering.{OffersState, OffersStand, IsOfferBy, IsLeaseOf}
 use Rattle.vale_book.proofs.Moves.{Moves, before, owed-room, entries-few}
-use Rattle.vale_steps.proofs.Lists.{each-take, each-left, each-right}
+use Rattle.vale_steps.proofs.Lists.{each-take}
 use Rattle.vale_book.proofs.Standing.{IsHere, ports-rising}
 
 -- ---- the offer that is next
@@ -126,8 +127,8 @@ leased-of : (region id count : ℕ) (p : PortState) → HasBuffersOf region p �
 leased-of region id count p of =
     let own = IsBufferOf region in
     rw held-leased (each-append own (drop count p.line.idle) (buffers_of (held_gots p.line.lots))
-    (each-drop own count p.line.idle (each-left own p.line.idle (buffers_of (held_gots p.line.lots)) of))
-    (each-right own p.line.idle (buffers_of (held_gots p.line.lots)) of))
+    (each-drop own count p.line.idle (each-front own p.line.idle (buffers_of (held_gots p.line.lots)) of))
+    (each-back own p.line.idle (buffers_of (held_gots p.line.lots)) of))
 
 some-same : {A : Type 0} {x y : A} → Some x ≡ Some y → x ≡ y
 some-same e = cc
@@ -395,7 +396,7 @@ lease-of b entry session want place port given full l k s for is =
       is_open = subst (λ (n : ℕ). open_port (before b).world.ports n ≡ Some port) s.grant.to s.found;
       is = here-holds b (λ (seat : Seat). IsLeaseFor (length b.history.entries + 1) offer seat l) place port k s.at (for offer s.grant.sizes);
       region_is = subst (λ (x : Leased). AreOf b.region.region x.empty) (sym same)
-          (each-take own _ p.line.idle (each-left own p.line.idle (buffers_of (held_gots p.line.lots)) of));
+          (each-take own _ p.line.idle (each-front own p.line.idle (buffers_of (held_gots p.line.lots)) of));
     }
 
 leases-of : (b : Inside) (entry session : ℕ) (want : Wanted) (place : ℕ) (port : Port) (given full : ℕ) (lease : Option Leased) → IsBook b

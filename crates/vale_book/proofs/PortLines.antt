@@ -4,6 +4,7 @@ use Rattle.std.specs.Prelude.{take_while}
 use Rattle.std.specs.List.{AllByRecursion as Each, prefix_len}
 use Rattle.std.proofs.lemmas.List.{map-append}
 use Rattle.nm_types.specs.declared.id.LeaseId.{LeaseId}
+use Rattle.nm_types.proofs.Lists.{each-front, each-back}
 use Rattle.nm_region.specs.Buffers.{Buffer}
 use Rattle.vale_line.specs.declared.got.Got.{Got}
 use Rattle.vale_line.specs.Gots.{buffers_of, buffer_of}
@@ -14,7 +15,7 @@ use Rattle.vale_port.specs.Laws.{with_line, line_after_put}
 use Rattle.vale_port.specs.Ports.{PortState}
 use Rattle.nm_region.specs.Regions.{AreOf}
 use Rattle.vale_book.specs.BookView.{HasBuffersOf}
-use Rattle.vale_steps.proofs.Lists.{each-left, each-right, each-take}
+use Rattle.vale_steps.proofs.Lists.{each-take}
 
 -- the buffers of each lot
 abbrev pub IsLotOf : ℕ → HeldLot → Type 0
@@ -24,8 +25,8 @@ pub lots-of : (region : ℕ) (lots : List HeldLot) → AreOf region (buffers_of 
 lots-of region [] all = tt
 lots-of region (lot ∷ lots) all =
     let both = subst (AreOf region) (map-append buffer_of (gots_of lot) (held_gots lots)) all in (
-      each-left (λ (b : Buffer). b.region ≡ region) (buffers_of (gots_of lot)) (buffers_of (held_gots lots)) both,
-      lots-of region lots (each-right (λ (b : Buffer). b.region ≡ region) (buffers_of (gots_of lot)) (buffers_of (held_gots lots)) both),
+      each-front (λ (b : Buffer). b.region ≡ region) (buffers_of (gots_of lot)) (buffers_of (held_gots lots)) both,
+      lots-of region lots (each-back (λ (b : Buffer). b.region ≡ region) (buffers_of (gots_of lot)) (buffers_of (held_gots lots)) both),
     )
 
 pub of-lots : (region : ℕ) (lots : List HeldLot) → Each (IsLotOf region) lots → AreOf region (buffers_of (held_gots lots))
@@ -35,11 +36,11 @@ of-lots region (lot ∷ lots) all =
     (each-append (λ (b : Buffer). b.region ≡ region) (buffers_of (gots_of lot)) (buffers_of (held_gots lots)) all.0 (of-lots region lots all.1))
 
 pub held-of : (region : ℕ) (p : PortState) → HasBuffersOf region p → AreOf region (buffers_of (held_gots p.line.lots))
-held-of region p all = each-right (λ (b : Buffer). b.region ≡ region) p.line.idle (buffers_of (held_gots p.line.lots)) all
+held-of region p all = each-back (λ (b : Buffer). b.region ≡ region) p.line.idle (buffers_of (held_gots p.line.lots)) all
 
 pub of-synced : (region : ℕ) (back : List Buffer) (p : PortState) → AreOf region back → HasBuffersOf region p → HasBuffersOf region (with_line (given_by_sync back p.line) p)
 of-synced region back p of all =
-    let idle = each-left (λ (b : Buffer). b.region ≡ region) p.line.idle (buffers_of (held_gots p.line.lots)) all in
+    let idle = each-front (λ (b : Buffer). b.region ≡ region) p.line.idle (buffers_of (held_gots p.line.lots)) all in
     each-append (λ (b : Buffer). b.region ≡ region) (p.line.idle ++ back) (buffers_of (held_gots (behind_done p.line.lots)))
     (each-append (λ (b : Buffer). b.region ≡ region) p.line.idle back idle of)
     (of-lots region (behind_done p.line.lots) (each-drop (IsLotOf region) (prefix_len is_done p.line.lots) p.line.lots (lots-of region p.line.lots (held-of region p all))))
@@ -60,7 +61,7 @@ of-put region id gots p of all = by-some (length gots == 0)
     idle = drop (length gots) p.line.idle
 
     rest : AreOf region idle
-    rest = each-drop (λ (b : Buffer). b.region ≡ region) (length gots) p.line.idle (each-left (λ (b : Buffer). b.region ≡ region) p.line.idle (buffers_of (held_gots p.line.lots)) all)
+    rest = each-drop (λ (b : Buffer). b.region ≡ region) (length gots) p.line.idle (each-front (λ (b : Buffer). b.region ≡ region) p.line.idle (buffers_of (held_gots p.line.lots)) all)
 
     lots : Each (IsLotOf region) p.line.lots
     lots = lots-of region p.line.lots (held-of region p all)

@@ -75,6 +75,7 @@ use Rattle.vale_steps.specs.Offering.{IsOfferBy}
 use Rattle.vale_steps.specs.Putting.{items_of, wants_put, put_entry, gone_entry, count_sent, count_given, copied, IfPut, IsPutBy}
 use Rattle.vale_book.specs.Putting.{IsPut}
 use Rattle.nm_types.specs.Ids.{lease_id}
+use Rattle.nm_types.proofs.Lists.{each-front}
 use Rattle.vale_own.specs.Recorded.{entry_of, IsRefusal}
 use Rattle.vale_book.proofs.Found.{open_at, open-here, never-missing as never-closed}
 use Rattle.vale_steps.proofs.MonitoredWants.{wants-monitored}
@@ -84,7 +85,7 @@ use Rattle.vale_book.proofs.PortLines.{of-first, of-put}
 use Rattle.vale_steps.proofs.PutLists.{items-first, indices-items, frames-items}
 use Rattle.vale_book.proofs.ReadMoves.{IsRest}
 use Rattle.vale_own.proofs.Rooms.{step-recorded}
-use Rattle.vale_steps.proofs.Lists.{each-take, each-left}
+use Rattle.vale_steps.proofs.Lists.{each-take}
 use Rattle.vale_book.proofs.Standing.{IsHere, found-here, not-found, ports-rising}
 
 -- ---- the port that puts, at its place
@@ -550,7 +551,7 @@ put-given b next p gots put k is pool entries by idle back =
     let here = is.there.at in
     let monitor = transmit_monitor w is.port.id in
     let region = b.region.region in
-    let own = each-left (λ (x : Buffer). x.region ≡ region) here.state.line.idle _ (each-at (HasBuffersOf region) b.ports.items p.place here.state k.lines_are here.state_here) in
+    let own = each-front (λ (x : Buffer). x.region ≡ region) here.state.line.idle _ (each-at (HasBuffersOf region) b.ports.items p.place here.state k.lines_are here.state_here) in
     let first = first_idle-place p.took s.holdings.ports w.entry_count p.place here.held (helds-rise b.pool.buffers h k.stands.legal) here.held_here in
     let given = idle (seats_of w.ports s.holdings.ports) (record { port = is.peer; held = here.held }) k.stands.ports_are (seats-at w.ports s.holdings.ports p.place is.peer here.held here.here here.held_here) in
     let offers = offered-to b next (put_entry p (taken_items p gots)) p.session is.port.session monitor (taken_frames p gots) (wants_put p) put.offers pool entries by.offers is.session (wants-are b p gots is)

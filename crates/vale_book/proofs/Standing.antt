@@ -8,7 +8,7 @@ use Rattle.vale_entry.proofs.HistoryLaws.{numbers-rise, holdings-agree}
 use Rattle.vale_port.specs.Seat.{port_of, seats_of}
 use Rattle.vale_port.specs.Lists.{IsFoundAt, IsNotFound, AreRising, StandsAt}
 use Rattle.vale_port.proofs.Lists.{are-length, seats-ports, each_port_stands, found_is_found, not_found_is_none}
-pub use Rattle.vale_steps.proofs.Lists.{each-left, each-right, each-take}
+pub use Rattle.vale_steps.proofs.Lists.{each-take}
 use Rattle.vale_book.specs.declared.book.Book.TheInside.{Inside}
 use Rattle.vale_book.specs.BookView.{StandsFor}
 

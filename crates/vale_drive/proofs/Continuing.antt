@@ -1,6 +1,7 @@
 -- Entries that come next, one after another, each of which leaves one promised entry fewer.
 use Rattle.std.proofs.Common.{ℕ, ◌≡◌, ◌<◌, Bool, true, false, cond, List, [], ◌∷◌, ◌++◌, map, find, Option, Some, None, option_map, refl, sym, ◌∙◌, ap, subst, arith, append-nil}
 use Rattle.std.proofs.lemmas.List.{append_assoc}
+use Rattle.std.proofs.lemmas.Option.{same_Some}
 use Rattle.vale_entry.specs.declared.entry.Ask.{Ask}
 use Rattle.vale_entry.specs.declared.entry.Ask.TheVariants.{Shut, Finish}
 use Rattle.vale_entry.specs.declared.entry.Entry.{Entry}
@@ -31,9 +32,6 @@ goes-step pool h (first ∷ more) entry goes next =
 abbrev IsKnown : Ask → Type 0
 IsKnown ask = (kept_ask ask ≡ ask) × (is_owed ask ≡ true)
 
-some-same : {X : Type 0} (x y : X) → Some x ≡ Some y → x ≡ y
-some-same x y e = cc
-
 session-known : (s : Standing) (session : ℕ) (found : Option Port) (ask : Ask) → session_ending s session found ≡ ask → IsKnown ask
 session-known s session None ask e = subst IsKnown e (refl, refl)
 session-known s session (Some port) ask e = by port.shutting e
@@ -44,15 +42,15 @@ session-known s session (Some port) ask e = by port.shutting e
 
 sessions-known : (s : Standing) (sessions : List ℕ) (ask : Ask) → sessions_ending s sessions ≡ Some ask → IsKnown ask
 sessions-known s [] ask e = absurd cc
-sessions-known s (session ∷ ss) ask e = session-known s session (find (is_port_of session) s.world.ports) ask (some-same _ ask e)
+sessions-known s (session ∷ ss) ask e = session-known s session (find (is_port_of session) s.world.ports) ask (same_Some _ ask e)
 
 leases-known : (s : Standing) (found : Option ℕ) (ask : Ask) → leases_ending s found ≡ Some ask → IsKnown ask
 leases-known s None ask e = sessions-known s s.world.sessions ask e
-leases-known s (Some lease) ask e = subst IsKnown (some-same _ ask e) (refl, refl)
+leases-known s (Some lease) ask e = subst IsKnown (same_Some _ ask e) (refl, refl)
 
 granted-known : (found : Option Offer) (ask : Ask) → option_map grant_of found ≡ Some ask → IsKnown ask
 granted-known None ask e = absurd cc
-granted-known (Some offer) ask e = subst IsKnown (some-same _ ask e) (refl, refl)
+granted-known (Some offer) ask e = subst IsKnown (same_Some _ ask e) (refl, refl)
 
 offers-known : (s : Standing) (found : Option ℕ) (ask : Ask) → offers_ending s found ≡ Some ask → IsKnown ask
 offers-known s None ask e = leases-known s (least (undone_numbers s.world)) ask e

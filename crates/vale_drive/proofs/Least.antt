@@ -3,12 +3,9 @@ use Rattle.std.proofs.Common.{ℕ, zero, suc, ◌≡◌, ◌≤◌, ◌==◌, �
 use Rattle.std.specs.Prelude.{fold}
 use Rattle.std.proofs.lemmas.Bool.{eqb-true, eqb-false, eq-eqb}
 use Rattle.std.specs.List.{AllByRecursion as Each, cons_option}
+use Rattle.nm_types.proofs.Tests.{or_true}
 use Rattle.vale_entry.specs.Holdings.{contains}
 use Rattle.vale_drive.specs.Winding.{least}
-
-or-on : (t : Bool) → (t || true) ≡ true
-or-on true = refl
-or-on false = refl
 
 -- ---- the smallest
 
@@ -36,7 +33,7 @@ least_by start (n ∷ ns) =
     there-by m e = by (m == min start n) refl e
       where
         by : (t : Bool) → (m == min start n) ≡ t → (t || contains m ns) ≡ true → ((m == start) || ((n == m) || contains m ns)) ≡ true
-        by false is e' = ap (λ (u : Bool). (m == start) || ((n == m) || u)) e' ∙ (ap (λ (u : Bool). (m == start) || u) (or-on (n == m)) ∙ or-on (m == start))
+        by false is e' = ap (λ (u : Bool). (m == start) || ((n == m) || u)) e' ∙ (ap (λ (u : Bool). (m == start) || u) (or_true (n == m)) ∙ or_true (m == start))
         by true is e' = at (m == start) refl (n == m) refl
           where
             at : (u : Bool) → (m == start) ≡ u → (v : Bool) → (n == m) ≡ v → (u || (v || contains m ns)) ≡ true
@@ -62,7 +59,7 @@ least-there n ns = turned (fold min n ns) (least_by n ns).there
       where
         by : (t : Bool) → (m == n) ≡ t → (t || contains m ns) ≡ true → ((n == m) || contains m ns) ≡ true
         by true is e' = ap (λ (u : Bool). u || contains m ns) (eq-eqb n m (sym (eqb-true m n is)))
-        by false is e' = ap (λ (u : Bool). (n == m) || u) e' ∙ or-on (n == m)
+        by false is e' = ap (λ (u : Bool). (n == m) || u) e' ∙ or_true (n == m)
 
 least-most : (n : ℕ) (ns : List ℕ) (k : ℕ) → contains k (n ∷ ns) ≡ true → fold min n ns ≤ k
 least-most n ns k e = by (n == k) refl e (least_by n ns)
@@ -125,7 +122,7 @@ at-read f (y ∷ ys) (suc place) x n here is = by (f y) (at-read f ys place x n 
   where
     by : (o : Option ℕ) → contains n (filter_map f ys) ≡ true → contains n (cons_option o (filter_map f ys)) ≡ true
     by None e = e
-    by (Some m) e = ap (λ (t : Bool). (m == n) || t) e ∙ or-on (m == n)
+    by (Some m) e = ap (λ (t : Bool). (m == n) || t) e ∙ or_true (m == n)
 
 pub none-read : {X : Type 0} (f : X → Option ℕ) (xs : List X) → filter_map f xs ≡ [] → Each (λ x. f x ≡ None) xs
 none-read f [] e = tt

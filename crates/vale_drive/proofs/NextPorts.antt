@@ -7,6 +7,7 @@ use Rattle.std.proofs.lemmas.Bool.{and_parts, eqb-true, eq-eqb, ne_eqb}
 use Rattle.std.proofs.lemmas.List.{length-map, length-take-le}
 use Rattle.std.proofs.lemmas.List.Sums.{sum_by-cons}
 use Rattle.nm_types.specs.declared.id.PortId.{PortId}
+use Rattle.nm_types.proofs.Tests.{or_true}
 use Rattle.nm_region.specs.Buffers.{Buffer, indices_of}
 use Rattle.vale_line.specs.Leased.{Leased}
 use Rattle.vale_entry.specs.declared.entry.Ask.TheVariants.{Shut, Finish, Leave}
@@ -329,14 +330,10 @@ none-has n [] quiet = refl
 none-has n (u ∷ us) quiet =
     ap (λ (ls : List Leased). list_any (is_lease n) ls || list_any (has_lease n) us) (settled-parts u quiet.0).1 ∙ none-has n us quiet.1
 
-or-on : (t : Bool) → (t || true) ≡ true
-or-on true = refl
-or-on false = refl
-
 any-at : {X : Type 0} (test : X → Bool) (xs : List X) (i : ℕ) (x : X) → slice_get xs i ≡ Some x → test x ≡ true → list_any test xs ≡ true
 any-at test [] i x here is = absurd cc
 any-at test (y ∷ ys) zero x here is = let same : y ≡ x = cc in ap (λ (t : Bool). t || list_any test ys) (ap test same ∙ is)
-any-at test (y ∷ ys) (suc i) x here is = ap (λ (t : Bool). test y || t) (any-at test ys i x here is) ∙ or-on (test y)
+any-at test (y ∷ ys) (suc i) x here is = ap (λ (t : Bool). test y || t) (any-at test ys i x here is) ∙ or_true (test y)
 
 none-found : (n : ℕ) (users : List User) → Each IsQuiet users → position (has_lease n) users ≡ None
 none-found n users quiet = by (position (has_lease n) users) refl

@@ -1,9 +1,10 @@
 -- The free buffers rise strictly, so that taking from the front takes the smallest; they are as
 -- many as the ports leave of the pool.
-use Rattle.std.proofs.Common.{ℕ, zero, suc, ◌+◌, ◌-◌, ◌≤◌, ◌≡◌, true, ◌==◌, List, [], ◌∷◌, ◌++◌, length, map, drop, sum_by, Some, None, refl, ap, subst, arith, length-drop, length-append}
+use Rattle.std.proofs.Common.{ℕ, ◌+◌, ◌-◌, ◌≤◌, ◌≡◌, true, ◌==◌, List, [], ◌∷◌, ◌++◌, length, map, drop, sum_by, Some, None, refl, ap, subst, arith, length-drop, length-append}
 use Rattle.std.specs.List.{range_with_len}
 use Rattle.std.proofs.lemmas.List.Sums.{sum_by_push}
 use Rattle.std.proofs.lemmas.Bool.{and_parts, eqb-true}
+use Rattle.std.proofs.lemmas.List.FromFn.{length-range_with_len}
 use Rattle.vale_entry.specs.declared.entry.Entry.{Entry}
 use Rattle.vale_entry.specs.World.{Port, Lot, Offer, buffers_of, due_of}
 use Rattle.vale_entry.specs.Opening.{open_refusal, opened_port}
@@ -165,10 +166,6 @@ pub free_entry :
     (s : Standing) (e : Entry) → Numbered s → Roomy s → Held s → HasFree s → HasFree (after s e)
 free_entry s e n roomy h f = after-by s HasFree e f (free_kinds s n roomy h f)
 
-length-range : (first count : ℕ) → length (range_with_len first count) ≡ count
-length-range first zero = refl
-length-range first (suc count) = let rest = length-range (first + 1) count in omega arith
-
 pub free_fresh : (pool : ℕ) → AreFree pool [] (range_with_len 2 pool)
 free_fresh pool =
-    let all = length-range 2 pool in record { rise = rise-range 1 pool; count = omega arith }
+    let all = length-range_with_len 2 pool in record { rise = rise-range 1 pool; count = omega arith }

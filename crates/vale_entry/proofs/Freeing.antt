@@ -4,6 +4,7 @@ use Rattle.std.proofs.Common.{ℕ, suc, ◌+◌, ◌<◌, ◌≤◌, ◌≡◌, 
 use Rattle.std.specs.List.{AllByRecursion as Each}
 use Rattle.std.proofs.lemmas.List.{take-append-drop}
 use Rattle.std.proofs.lemmas.Bool.{and_parts, eqb-false, eq-eqb, ltb-true, ltb-false, leb-true, lt-ltb, le-ltb}
+use Rattle.nm_types.proofs.Lists.{each-back}
 use Rattle.vale_entry.specs.Holdings.{with_free, all_with_free, is_buffer_index}
 use Rattle.vale_entry.specs.Laws.{Rise, FreeBuffersReturn}
 use Rattle.vale_entry.proofs.Rising.{rise-above}
@@ -122,10 +123,6 @@ held-bounds pool b n parted some = by_test (is_buffer_index pool b) refl parted
         (leb-true 2 b parts.0, leb-true b (pool + 1) parts.1)
 
 -- What was taken from the front of the free buffers goes back to its place.
-
-each-back : {X : Type 0} (P : X → Type 0) (xs ys : List X) → Each P (xs ++ ys) → Each P ys
-each-back P [] ys all = all
-each-back P (x ∷ xs) ys all = each-back P xs ys all.1
 
 rise-around :
     (low : ℕ) (front : List ℕ) (b : ℕ) (more : List ℕ) (high : ℕ)

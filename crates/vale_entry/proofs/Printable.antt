@@ -28,17 +28,11 @@ use Rattle.vale_entry.specs.Monitors.{can_watch}
 use Rattle.vale_entry.specs.Pipe.{frames_of_items, is_pipe_item}
 use Rattle.vale_entry.specs.declared.entry.Item.{Item}
 use Rattle.nm_types.specs.Sendable.{fits_buffer}
+use Rattle.nm_types.proofs.Tests.{both_true}
 use Rattle.vale_entry.proofs.Offered.{rise-offers}
 use Rattle.vale_entry.proofs.Follows.{EachKind, Receives, by_sync, by_get, IsQuiet, refused_open, resets, finds_no_peer, finds_no_target, finds_watched, counts, follows-by}
 use Rattle.vale_entry.proofs.Worlds.{count-standing_after}
 use Rattle.vale_entry.proofs.Numbered.{Numbered, numbered_entry, world-numbered}
-
-no-truth : {X : Type 0} → false ≡ true → X
-no-truth e = absurd cc
-
-both : (a b : Bool) → a ≡ true → b ≡ true → (a && b) ≡ true
-both true b left right = right
-both false b left right = no-truth left
 
 -- Destinations rise, since ports do.
 
@@ -47,7 +41,7 @@ rise-dests :
 rise-dests low [] high r = refl
 rise-dests low (d ∷ []) high r = refl
 rise-dests low (d ∷ next ∷ to) high r =
-    both (nat_lt d.to.0 next.to.0) (dests_rise (next ∷ to)) (lt-ltb d.to.0 next.to.0 r.1.0)
+    both_true (nat_lt d.to.0 next.to.0) (dests_rise (next ∷ to)) (lt-ltb d.to.0 next.to.0 r.1.0)
     (rise-dests d.to.0 (next ∷ to) high r.1)
 
 -- A refusal is one that is printed.
@@ -83,7 +77,7 @@ printed-open :
     (asked : SessionId) (name : List ℕ) → IsName name
     → ((asked.0 == asked.0) && is_name name) ≡ true
 printed-open asked name named =
-    both (asked.0 == asked.0) (is_name name) (eq-eqb asked.0 asked.0 refl) named
+    both_true (asked.0 == asked.0) (is_name name) (eq-eqb asked.0 asked.0 refl) named
 
 printed-grant :
     (found : Option Port) (frames : List Frame) (n session origin : ℕ) (to : PortId)
@@ -108,8 +102,8 @@ printed-refused w asked name tx rx extra fault e named =
     (names_refusal (names_of w.ports) name tx rx extra) (tx + rx + extra) (free_count w)
     (name-refusal-well (are_sizes name tx rx extra) (finds_switches_full (names_of w.ports) name)
     (finds_ports_full (names_of w.ports) name) (finds_name_taken (names_of w.ports) name)) in
-    both (asked.0 == asked.0) (is_name name && is_refusal fault) (eq-eqb asked.0 asked.0 refl)
-    (both (is_name name) (is_refusal fault) named (subst IsRefusedWell e well))
+    both_true (asked.0 == asked.0) (is_name name && is_refusal fault) (eq-eqb asked.0 asked.0 refl)
+    (both_true (is_name name) (is_refusal fault) named (subst IsRefusedWell e well))
 
 watch-named : (target : List ℕ) (port : Port) → can_watch target port ≡ true → is_name target ≡ true
 watch-named target port can =
@@ -139,7 +133,7 @@ unmarked [] e = refl
 unmarked (item ∷ items) e =
     let parts = and_parts (is_pipe_item item) (list_all is_pipe_item items) e in
     let here = and_parts (fits_buffer item.bytes) (not item.bytes.no_learn) parts.0 in
-    both (is_unmarked item) (list_all is_unmarked items) here.1 (unmarked items parts.1)
+    both_true (is_unmarked item) (list_all is_unmarked items) here.1 (unmarked items parts.1)
 
 printed-received :
     (n session : ℕ) (ask : Ask) (at : PortId) (back : List ℕ) (count : ℕ) (to : List Dest)
@@ -172,7 +166,7 @@ printed-kinds s numbered = record {
       (offered-rise s.world port.session
       (monitored_frames (receive_monitor s.world port.id) (delivered_frames port)) numbered);
   puts = λ at offered items port peer e can found.
-      both (list_all is_unmarked items)
+      both_true (list_all is_unmarked items)
       (dests_rise (dests_of (offers_of_put s.world port (frames_of_items items))))
       (unmarked items can.sound)
       (offered-rise s.world port.session

@@ -5,6 +5,7 @@ use Rattle.std.proofs.lemmas.List.{map-append}
 use Rattle.std.proofs.lemmas.List.Elements.{filter-append}
 use Rattle.std.proofs.lemmas.List.Folds.{list_any-append}
 use Rattle.std.proofs.lemmas.Bool.{eqb-true, eqb-false, ne_eqb}
+use Rattle.nm_types.proofs.Tests.{or_none}
 use Rattle.vale_entry.specs.World.{Port, Offer}
 use Rattle.vale_entry.specs.Laws.{Rise, IsThere}
 use Rattle.vale_entry.specs.Delivered.{Brought}
@@ -15,10 +16,6 @@ use Rattle.vale_entry.proofs.Removals.{each-kept}
 
 -- Numbers among others.
 
-or-none : (a : Bool) → (a || false) ≡ a
-or-none true = refl
-or-none false = refl
-
 -- one number more is seen by what bears it alone
 pub there-push_other :
     (ns : List ℕ) (n k : ℕ) → (n == k) ≡ false
@@ -27,7 +24,7 @@ there-push_other ns n k other =
     list_any-append (λ (m : ℕ). m == k) ns (n ∷ [])
     ∙
     (ap (λ (b : Bool). list_any (λ (m : ℕ). m == k) ns || (b || false)) other
-    ∙ or-none (list_any (λ (m : ℕ). m == k) ns))
+    ∙ or_none (list_any (λ (m : ℕ). m == k) ns))
 
 -- a number that is there is within what holds of all
 there_by :

@@ -5,6 +5,7 @@ use Rattle.std.proofs.lemmas.List.{take-append-le}
 use Rattle.std.proofs.lemmas.List.Sums.{sum_by-append, sum_by-cons}
 use Rattle.std.proofs.lemmas.Option.{slice_get_within}
 use mathlib.Core.List.{IsPrefix}
+use Rattle.nm_types.proofs.Lists.{each-joined}
 use Rattle.nm_turn.specs.Numbered.{Stands, IsPicked, numbered}
 use Rattle.nm_turn.specs.Passes.{NoRootPast}
 use Rattle.nm_turn.specs.Shares.{IsWhole}
@@ -99,10 +100,6 @@ each-on : {X : Type 0} (P Q : X → Type 0) (xs : List X) → ((k : ℕ) (x : X)
 each-on P Q [] on all = tt
 each-on P Q (x ∷ xs) on all = (on 0 x refl all.0, each-on P Q xs (λ k y e. on (suc k) y e) all.1)
 
-each-both : {X : Type 0} (P : X → Type 0) (xs ys : List X) → Each P xs → Each P ys → Each P (xs ++ ys)
-each-both P [] ys a b = b
-each-both P (x ∷ xs) ys a b = (a.0, each-both P xs ys a.1 b)
-
 pub settling-then : {fixed : Fixed} {v w x : Knowing} {session : ℕ} {a b : Shares} → Settling fixed v w session a → Settling fixed w x session b → Settling fixed v x session (both a b)
 settling-then {fixed} {v} {w} {x} {session} {a} {b} s t =
     let goes_on : IsPrefix w.seen x.seen = t.told.begins in
@@ -115,7 +112,7 @@ settling-then {fixed} {v} {w} {x} {session} {a} {b} s t =
     record {
       added = s.added ++ t.added;
       told = told_then root_of v w x w.seen x.seen s.added t.added s.told t.told;
-      each = each-both (IsSettlingIn fixed session x.seen) s.added t.added lifted t.each;
+      each = each-joined (IsSettlingIn fixed session x.seen) s.added t.added lifted t.each;
       shares_are = record {
         given = plus a.given b.given _ _ s.shares_are.given t.shares_are.given ∙ sym (sum_by-append (λ (made : ℕ × Entry). given_in made.1.reply) s.added t.added);
         full = plus a.full b.full _ _ s.shares_are.full t.shares_are.full ∙ sym (sum_by-append (λ (made : ℕ × Entry). full_in made.1.reply) s.added t.added);

@@ -4,6 +4,7 @@ use Rattle.std.specs.List.{range_with_len, AllByRecursion as Each}
 use Rattle.nm_types.specs.Names.{IsName, is_monitor_name}
 use Rattle.nm_types.specs.Limits.{most_counts, buffer_bytes}
 use Rattle.nm_types.specs.declared.fault.LineCause.TheVariants.{User, Port, Order, Twice}
+use Rattle.nm_types.proofs.Lists.{each-joined}
 use Rattle.vale_script.specs.declared.script.Act.{Act}
 use Rattle.vale_script.specs.declared.script.Act.TheVariants.{Enter, Open, Put, Tx, Rx}
 use Rattle.vale_script.specs.declared.script.Line.{Line}
@@ -29,13 +30,9 @@ record IsWork (deed : Deed) : Type 0 where
   pub most : deed.user ≤ 4
   pub act : IsWorkAct deed.user deed.act
 
-each-append : {X : Type 0} (P : X → Type 0) (xs ys : List X) → Each P xs → Each P ys → Each P (xs ++ ys)
-each-append P [] ys first then = then
-each-append P (x ∷ xs) ys first then = (first.0, each-append P xs ys first.1 then)
-
 each-flat : {X Y : Type 0} (P : Y → Type 0) (f : X → List Y) → ((x : X) → Each P (f x)) → (xs : List X) → Each P (flat_map f xs)
 each-flat P f all [] = tt
-each-flat P f all (x ∷ xs) = each-append P (f x) (flat_map f xs) (all x) (each-flat P f all xs)
+each-flat P f all (x ∷ xs) = each-joined P (f x) (flat_map f xs) (all x) (each-flat P f all xs)
 
 put-work : (n user j : ℕ) → 1 ≤ user → user ≤ 4 → IsWork (puts n user j)
 put-work n user j least most =
@@ -55,10 +52,10 @@ user-work n user frames least most = each-flat IsWork (frame_deeds n user) (fram
 
 block-work : (n : ℕ) → Each IsWork (block_deeds n)
 block-work n =
-    each-append IsWork (user_deeds n 1 2000) _ (user-work n 1 2000 (omega arith) (omega arith))
-    (each-append IsWork (user_deeds n 2 2000) _ (user-work n 2 2000 (omega arith) (omega arith))
-    (each-append IsWork (user_deeds n 3 2000) _ (user-work n 3 2000 (omega arith) (omega arith))
-    (each-append IsWork (user_deeds n 4 2000) [] (user-work n 4 2000 (omega arith) (omega arith)) tt)))
+    each-joined IsWork (user_deeds n 1 2000) _ (user-work n 1 2000 (omega arith) (omega arith))
+    (each-joined IsWork (user_deeds n 2 2000) _ (user-work n 2 2000 (omega arith) (omega arith))
+    (each-joined IsWork (user_deeds n 3 2000) _ (user-work n 3 2000 (omega arith) (omega arith))
+    (each-joined IsWork (user_deeds n 4 2000) [] (user-work n 4 2000 (omega arith) (omega arith)) tt)))
 
 -- What the users are called.
 

@@ -15,6 +15,7 @@ use Rattle.nm_types.specs.Limits.{most_switch_ports}
 use Rattle.nm_types.specs.Names.{switch_of, is_switch_port_name}
 use Rattle.nm_types.specs.declared.fault.OpenFault.{OpenFault}
 use Rattle.nm_types.specs.declared.id.PortId.{PortId}
+use Rattle.nm_types.proofs.Tests.{or_none}
 use Rattle.vale_names.specs.declared.port.NamedPort.{NamedPort}
 use Rattle.vale_names.specs.declared.switch.Switch.{Switch}
 use Rattle.vale_names.specs.Ports.{has_name, is_open_as, open_port_of, fresh_port, Joins, has_id, shut_at, shut_in, ports_without}
@@ -193,10 +194,6 @@ switch_count (place ∷ places) are = counted place.label place.group.ports are.
         let one = one_switch (switch_of label) ports (ports_on places) all (places_none (switch_of label) places are.1.1 apart) in
         omega arith
 
-or_false : (b : Bool) → (b || false) ≡ b
-or_false true = refl
-or_false false = refl
-
 any_narrower : (test wide : NamedPort → Bool) (ports : List NamedPort) → ((p : NamedPort) → wide p ≡ false → test p ≡ false) → list_any wide ports ≡ false → list_any test ports ≡ false
 any_narrower test wide [] narrow none = refl
 any_narrower test wide (port ∷ ports) narrow none =
@@ -216,7 +213,7 @@ switches_append (port ∷ ports) others none =
     let rest = switches_append ports others none in
     let away = any_narrower (is_on_switch (switch_of port.name)) has_switch_name others (not_on_switch (switch_of port.name)) none in
     let same : list_any (is_on_switch (switch_of port.name)) (ports ++ others) ≡ list_any (is_on_switch (switch_of port.name)) ports =
-    list_any-append (is_on_switch (switch_of port.name)) ports others ∙ (ap (λ (b : Bool). list_any (is_on_switch (switch_of port.name)) ports || b) away ∙ or_false (list_any (is_on_switch (switch_of port.name)) ports)) in
+    list_any-append (is_on_switch (switch_of port.name)) ports others ∙ (ap (λ (b : Bool). list_any (is_on_switch (switch_of port.name)) ports || b) away ∙ or_none (list_any (is_on_switch (switch_of port.name)) ports)) in
     rw (same, rest) refl
 
 -- ---- the place for a switch

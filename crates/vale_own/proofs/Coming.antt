@@ -8,6 +8,7 @@ use Rattle.vale_entry.specs.declared.entry.Ask.TheVariants.{Enter}
 use Rattle.vale_entry.specs.declared.entry.Entry.{Entry}
 use Rattle.vale_entry.specs.declared.entry.Reply.{Reply}
 use Rattle.nm_types.specs.declared.id.PortId.{PortId}
+use Rattle.nm_types.proofs.Tests.{or_none}
 use Rattle.vale_entry.specs.World.{World}
 use Rattle.vale_entry.specs.Legal.{Standing, standing_of, world_of, IsLegal, Follows, is_met, enter_step}
 use Rattle.vale_entry.proofs.Worlds.{standing-push, count-world_of}
@@ -64,14 +65,10 @@ longer : (h : List Entry) (e : Entry) → length (h ++ e ∷ []) ≡ length h + 
 longer [] e = refl
 longer (x ∷ xs) e = let rest = longer xs e in omega (arith, rest)
 
-or-false : (b : Bool) → (b || false) ≡ b
-or-false true = refl
-or-false false = refl
-
 -- an entry that is neither an Enter nor a Leave of the session
 known-kept : (h : List Entry) (sessions : List ℕ) (e : Entry) (session : ℕ) → is_coming e ≡ false → is_leaving session e ≡ false → Known h sessions session → Known (h ++ e ∷ []) sessions session
 known-kept h sessions e session none stays k =
-    let left : has_left (h ++ e ∷ []) session ≡ has_left h session = any-snoc (is_leaving session) h e ∙ (ap (λ (b : Bool). has_left h session || b) stays ∙ or-false (has_left h session)) in
+    let left : has_left (h ++ e ∷ []) session ≡ has_left h session = any-snoc (is_leaving session) h e ∙ (ap (λ (b : Bool). has_left h session || b) stays ∙ or_none (has_left h session)) in
     let come = come-kept h e session (inl none) in
     record { there = k.there ∙ sym (ap₂ (λ (a b : Bool). a && not b) come left); bound = λ l. let b = k.bound (sym left ∙ l) in let long = longer h e in omega (arith, b, long) }
 
@@ -81,7 +78,7 @@ known-enter : (h : List Entry) (sessions : List ℕ) (e : Entry) (session : ℕ)
 known-enter h sessions e session comes stays k = by (cases_eq (length h + 1) session)
   where
     left : has_left (h ++ e ∷ []) session ≡ has_left h session
-    left = any-snoc (is_leaving session) h e ∙ (ap (λ (b : Bool). has_left h session || b) stays ∙ or-false (has_left h session))
+    left = any-snoc (is_leaving session) h e ∙ (ap (λ (b : Bool). has_left h session || b) stays ∙ or_none (has_left h session))
 
     bounded : has_left (h ++ e ∷ []) session ≡ true → session ≤ length (h ++ e ∷ [])
     bounded l = let b = k.bound (sym left ∙ l) in let long = longer h e in omega (arith, b, long)

@@ -24,6 +24,7 @@ use Rattle.nm_types.specs.OwnPorts.{OwnRing, OwnPort, OwnState, Arrival, bytes_a
 use Rattle.nm_types.specs.OwnSyncs.{offered_slots, own_after_receive, own_after_put}
 use Rattle.nm_types.proofs.RingSteps.{dist-below, length-slots_from}
 use Rattle.nm_types.proofs.Sizes.{size_of_frames-length}
+use Rattle.nm_types.proofs.Tests.{less_true}
 use Rattle.vale_entry.specs.declared.entry.Ask.TheVariants.{Send, Sync, Put, Get}
 use Rattle.vale_entry.specs.declared.entry.Entry.{Entry}
 use Rattle.vale_entry.specs.declared.entry.Item.{Item}
@@ -99,9 +100,6 @@ fault-fits (Some f) fault fits e = let is : f ≡ fault = cc in ap fits_fault (s
 
 below-true : (a b : ℕ) → a ≤ b → nat_le a b ≡ true
 below-true a b le = grind (arith, nat_tests)
-
-less-true : (a b : ℕ) → a < b → nat_lt a b ≡ true
-less-true a b le = grind (arith, nat_tests)
 
 taken-short : (n : ℕ) (xs : List ℕ) → length (take n xs) ≤ n
 taken-short zero xs = omega arith
@@ -279,7 +277,7 @@ module _ (pool : ℕ) (past : List Entry) (session : ℕ) (shut : Option ℕ) (s
         by (Some fault) refused =
             let check = sync-check Tx side r fault refused in
             let numbers = fault-fits (refusal_in Tx side r) fault fits refused in
-            let ring : nat_lt 0 (size_if p.tx) ≡ true = (let same = size-is in let long = sizes.0 in less-true 0 (size_if p.tx) (omega (arith, same, long))) in
+            let ring : nat_lt 0 (size_if p.tx) ≡ true = (let same = size-is in let long = sizes.0 in less_true 0 (size_if p.tx) (omega (arith, same, long))) in
             rw (own-open pool past session shut side k p found stays, ring, check, numbers) refl
 
 pub transmit-asked : TransmitMayBeAsked

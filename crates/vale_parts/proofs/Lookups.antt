@@ -8,6 +8,7 @@ use Rattle.nm_types.specs.Frames.{Frame}
 use Rattle.nm_types.specs.Names.{switch_of, is_switch_port_name}
 use Rattle.nm_types.specs.Sendable.{fits_buffer}
 use Rattle.nm_types.specs.declared.id.PortId.{PortId}
+use Rattle.nm_types.proofs.Tests.{or_none}
 use Rattle.vale_learn.specs.AddressTable.{Entries}
 use Rattle.vale_learn.specs.AddressTable.{port_of_address as table_port}
 use Rattle.vale_batch.specs.declared.looking.Destination.{Destination as Lookup}
@@ -39,10 +40,6 @@ slots_are_one frame fits = ap (λ (b : Bool). cond b 1 (slots_long frame)) fits
   where
     slots_long : Frame → ℕ
     slots_long frame = div_ceil (length frame.bytes) 2048
-
-pub or_none : (b : Bool) → (b || false) ≡ b
-or_none true = refl
-or_none false = refl
 
 -- ---- one frame
 

@@ -3,6 +3,7 @@ use Rattle.std.proofs.Common.{ℕ, Bool, false, cond, ◌≡◌, ◌≤◌, ◌<
 use Rattle.std.specs.List.{AllByRecursion as Each}
 use Rattle.std.proofs.lemmas.Bool.{ltb-true, lt-ltb, false_from_ne_true}
 use Rattle.std.proofs.lemmas.List.{append_assoc, take-append-drop, map-append}
+use Rattle.nm_types.proofs.Lists.{each-back}
 use Rattle.nm_region.specs.Buffers.{Buffer, indices_of}
 use Rattle.nm_pool.specs.Free.{PoolState, with_buffer}
 use Rattle.vale_entry.specs.Holdings.{buffers_at_port, buffers_held}
@@ -29,10 +30,6 @@ abbrev GoBetween : List Buffer → List Buffer → List Buffer → Type 0
 GoBetween front [] rest = Unit {0}
 GoBetween front (b ∷ bs) rest = Each (λ (f : Buffer). f.index < b.index) front × (Each (λ (r : Buffer). b.index < r.index) rest × GoBetween (front ++ b ∷ []) bs rest)
 
-each_back : {X : Type 0} (P : X → Type 0) (xs ys : List X) → Each P (xs ++ ys) → Each P ys
-each_back P [] ys all = all
-each_back P (x ∷ xs) ys all = each_back P xs ys all.1
-
 go_between : (low : ℕ) (front bufs rest : List Buffer) (high : ℕ) → Rise low (indices_of (bufs ++ rest)) high → Each (λ (f : Buffer). f.index ≤ low) front → GoBetween front bufs rest
 go_between low front [] rest high r under = tt
 go_between low front (b ∷ bs) rest high r under =
@@ -42,7 +39,7 @@ go_between low front (b ∷ bs) rest high r under =
     let lower : Each (λ (f : Buffer). f.index ≤ b.index) front = each-weaker (λ (f : Buffer). f.index ≤ low) (λ (f : Buffer). f.index ≤ b.index) (λ f here. omega (arith, here, first)) front under in (
       each-weaker (λ (f : Buffer). f.index ≤ low) (λ (f : Buffer). f.index < b.index) (λ f here. omega (arith, here, first)) front under,
       (
-        each_back (λ (x : Buffer). b.index < x.index) bs rest above,
+        each-back (λ (x : Buffer). b.index < x.index) bs rest above,
         go_between b.index (front ++ b ∷ []) bs rest high r.1 (each-append (λ (f : Buffer). f.index ≤ b.index) front (b ∷ []) lower (omega arith, tt)),
       ),
     )

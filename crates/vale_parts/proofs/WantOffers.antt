@@ -1,10 +1,12 @@
 -- Port by port, what the ports of a switch want, and what is offered to all ports.
-use Rattle.std.proofs.Common.{ℕ, zero, suc, Bool, true, false, cond, ◌≡◌, ◌+◌, ◌<◌, ◌≤◌, List, [], ◌∷◌, length, map, filter, slice_get, Option, Some, refl, sym, ◌∙◌, ap, subst, arith, ◌==◌, ◌||◌, nat_lt}
+use Rattle.std.proofs.Common.{ℕ, Bool, true, false, cond, ◌≡◌, ◌<◌, ◌≤◌, List, [], ◌∷◌, length, map, filter, slice_get, Option, Some, refl, sym, ◌∙◌, ap, subst, arith, ◌==◌, ◌||◌, nat_lt}
 use Rattle.std.specs.List.{AllByRecursion as Each, list_any, range_with_len, cons_option}
-use Rattle.std.proofs.lemmas.Bool.{ltb-true, lt-ltb, eqb-true, ne_eqb, false_from_ne_true}
+use Rattle.std.proofs.lemmas.Bool.{ltb-true, lt-ltb, eqb-true, ne_eqb}
 use Rattle.std.proofs.lemmas.List.{length-map}
+use Rattle.std.proofs.lemmas.List.FromFn.{length-range_with_len}
 use Rattle.nm_types.specs.Frames.{Frame}
 use Rattle.nm_types.specs.declared.id.PortId.{PortId}
+use Rattle.nm_types.proofs.Tests.{less_false}
 use Rattle.vale_batch.specs.declared.looking.Looked.{Looked}
 use Rattle.vale_batch.specs.Wants.{Wanted, want_at, wants_of, wants_some}
 use Rattle.vale_entry.specs.World.{Port, Offer}
@@ -18,13 +20,6 @@ use Rattle.vale_parts.specs.Ids.{id_of_port}
 use Rattle.vale_parts.specs.SwitchPorts.{is_open_on, open_ports_on}
 use Rattle.vale_parts.specs.Batches.{AreOffersOf, want_of_all, with_want}
 use Rattle.vale_parts.proofs.WantedFrames.{AreWanted, all-places}
-
-length_range : (first count : ℕ) → length (range_with_len first count) ≡ count
-length_range first zero = refl
-length_range first (suc count) = let rest = length_range (first + 1) count in omega arith
-
-below_no : (a b : ℕ) → b ≤ a → nat_lt a b ≡ false
-below_no a b low = false_from_ne_true (nat_lt a b) (λ t. let up = ltb-true a b t in absurd (omega (arith, low, up)))
 
 module _ (frames : List Frame) (origin session : ℕ) (wanted : Port → List Frame) where
   -- one want and one offer more, or neither
@@ -77,7 +72,7 @@ module _ (frames : List Frame) (origin session : ℕ) (wanted : Port → List Fr
     first_by want (w ∷ ws) all = ap (λ (b : Bool). cond b (want ∷ w ∷ ws) (w ∷ with_want want ws)) (lt-ltb want.to.0 w.to.0 all.0)
 
     later_by : (want first : Wanted) (wants : List Wanted) (b : Bool) → first.to.0 ≤ want.to.0 → with_want want (cond b (first ∷ wants) wants) ≡ cond b (first ∷ with_want want wants) (with_want want wants)
-    later_by want first wants true low = ap (λ (c : Bool). cond c (want ∷ first ∷ wants) (first ∷ with_want want wants)) (below_no want.to.0 first.to.0 low)
+    later_by want first wants true low = ap (λ (c : Bool). cond c (want ∷ first ∷ wants) (first ∷ with_want want wants)) (less_false want.to.0 first.to.0 low)
     later_by want first wants false low = refl
 
     above : (low : ℕ) (ports : List Port) → Each (λ (p : Port). low < p.id) ports → Each (λ (w : Wanted). low < w.to.0) (wants_in ports)
@@ -105,7 +100,7 @@ module _ (frames : List Frame) (origin session : ℕ) (wanted : Port → List Fr
     at_monitor monitor port ports some id is true t more rest = absurd (let wrong : true ≡ false = sym t ∙ is.closed in cc)
     at_monitor monitor port ports some id is false t more rest =
         let all = want_of_all monitor frames in
-        let count : length (range_with_len 0 (length frames)) ≡ length frames = length_range 0 (length frames) in
+        let count : length (range_with_len 0 (length frames)) ≡ length frames = length-range_with_len 0 (length frames) in
         let full : nat_lt 0 (length all.places) ≡ true = lt-ltb 0 (length all.places) (omega (arith, some, count)) in
         let are : AreWanted frames all.places all.sizes frames = record { places_are = all-places frames 0 frames refl; sizes_are = refl } in
         let one = contribute true all (wants_in ports) port.id frames (offers_in ports) full (sym id) are rest in

@@ -4,6 +4,7 @@ use Rattle.std.specs.List.{AllByRecursion as Each, range_with_len}
 use Rattle.std.proofs.lemmas.Bool.{or_from, or_right, false_from_ne_true}
 use Rattle.nm_types.specs.Frames.{Frame, slots_of}
 use Rattle.nm_types.specs.Names.{switch_of}
+use Rattle.nm_types.proofs.Tests.{or_none}
 use Rattle.vale_batch.specs.declared.looking.Destination.{Destination as Lookup}
 use Rattle.vale_batch.specs.declared.looking.Destination.TheVariants as lookups
 use Rattle.vale_batch.specs.declared.looking.Looked.{Looked}
@@ -14,7 +15,7 @@ use Rattle.vale_entry.specs.Offers.{is_monitor, is_wanted_at, frame_of, wanted_f
 use Rattle.vale_parts.specs.Ids.{port_id, id_of_port}
 use Rattle.vale_parts.specs.SwitchPorts.{is_open_on}
 use Rattle.vale_parts.specs.Batches.{named_as, IsLookedAs, AreLookedAs}
-use Rattle.vale_parts.proofs.Lookups.{or_none, NamesOpen}
+use Rattle.vale_parts.proofs.Lookups.{NamesOpen}
 
 -- what stands at a place, and what is behind it
 pub record IsFront {X : Type 0} (xs : List X) (n : ℕ) (x : X) (rest : List X) : Type 0 where

@@ -11,6 +11,7 @@ use Rattle.nm_types.specs.declared.name.Kind.TheVariants.{Vale, Master, Slave, M
 use Rattle.nm_types.specs.Names.{is_switch_port, is_switch_port_at, is_switch_port_kind, is_switch_port_name, pipe_kind, is_word, switch_of, colon_in, IsName}
 use Rattle.nm_types.specs.Openings.{is_on_switch}
 use Rattle.nm_types.proofs.SwitchNames.{kind_of-vale}
+use Rattle.nm_types.proofs.Tests.{both_are}
 use Rattle.vale_port.specs.Ports.{is_part, IsLastByte}
 
 abbrev is_colon : ℕ → Bool
@@ -231,10 +232,6 @@ last-some switch some =
     let place : length switch + 3 ≡ suc (suc (suc (suc (length switch - 1)))) = omega (arith, some) in
     rw place refl
 
-both_true : (a b : Bool) → (a && b) ≡ true → (a ≡ true) × (b ≡ true)
-both_true true b is = (refl, is)
-both_true false b is = absurd cc
-
 same_last : (switch : List ℕ) (a b c d last : ℕ) (rest : List ℕ) → IsLastByte switch last → codes "vale" ≡ a ∷ b ∷ c ∷ d ∷ []
     → length switch < length rest → switch ≡ take (length switch) rest → get_or (a ∷ b ∷ c ∷ d ∷ rest) (length switch + 3) 0 ≡ last
 same_last [] a b c d last rest is vale long begins = sym (ap (λ (l : List ℕ). get_or l 3 0) vale) ∙ is
@@ -253,8 +250,8 @@ stands-in switch (a ∷ []) last is long part vale = absurd cc
 stands-in switch (a ∷ b ∷ []) last is long part vale = absurd cc
 stands-in switch (a ∷ b ∷ c ∷ []) last is long part vale = absurd cc
 stands-in switch (a ∷ b ∷ c ∷ d ∷ rest) last is long part vale =
-    let first = both_true (nat_lt (length switch) (length rest)) (slice_index rest (length switch) == 58 && starts_with nat_eq rest switch) part in
-    let second = both_true (slice_index rest (length switch) == 58) (starts_with nat_eq rest switch) first.1 in
+    let first = both_are (nat_lt (length switch) (length rest)) (slice_index rest (length switch) == 58 && starts_with nat_eq rest switch) part in
+    let second = both_are (slice_index rest (length switch) == 58) (starts_with nat_eq rest switch) first.1 in
     let less : length switch < length rest = ltb-true (length switch) (length rest) first.0 in
     let text : codes "vale" ≡ a ∷ b ∷ c ∷ d ∷ [] = (bytes_eq-Decides (codes "vale") (take 4 (a ∷ b ∷ c ∷ d ∷ rest))).0 vale in
     (omega (arith, less), same_last switch a b c d last rest is text less ((bytes_eq-Decides switch (take (length switch) rest)).0 second.1))
@@ -272,8 +269,8 @@ stands-on : (switch name : List ℕ) (last : ℕ) → IsLastByte switch last →
     → stands switch name last ≡ true
 stands-on switch name last is none named on =
     let all = on-switch switch name none named ∙ on in
-    let first = both_true (nat_lt 4 (length name)) (is_part (drop 4 name) switch && is_vale name) all in
-    let second = both_true (is_part (drop 4 name) switch) (is_vale name) first.1 in
+    let first = both_are (nat_lt 4 (length name)) (is_part (drop 4 name) switch && is_vale name) all in
+    let second = both_are (is_part (drop 4 name) switch) (is_vale name) first.1 in
     let there = stands-in switch name last is first.0 second.0 second.1 in
     rw (lt-ltb (length switch + 3) (length name) there.0) (same_byte (slice_index name (length switch + 3)) last there.1)
 

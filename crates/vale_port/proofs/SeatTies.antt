@@ -1,5 +1,5 @@
 -- Ports of owned buffers and the seats of the world that they stand for: each step keeps the tie.
-use Rattle.std.proofs.Common.{ℕ, zero, suc, Bool, true, false, not, ◌≡◌, ◌+◌, ◌-◌, ◌<◌, ◌≤◌, ◌||◌, List, [], ◌∷◌, ◌++◌, length, take, drop, map, Option, Some, None, inl, inr, refl, sym, ◌∙◌, ap, subst, arith}
+use Rattle.std.proofs.Common.{ℕ, zero, suc, Bool, true, false, not, ◌≡◌, ◌+◌, ◌-◌, ◌<◌, ◌≤◌, List, [], ◌∷◌, ◌++◌, length, take, drop, map, Option, Some, None, inl, inr, refl, sym, ◌∙◌, ap, subst, arith}
 use Rattle.std.specs.Prelude.{flat_map, All, sum, sum_by, nat_le, find, option_map, ◌==◌}
 use Rattle.std.specs.List.{list_any}
 use Rattle.std.proofs.lemmas.Bool.{cases_Bool, ne_eqb, eq-eqb, eqb-true, leb-true, and_parts}
@@ -9,6 +9,7 @@ use Rattle.std.proofs.lemmas.List.Sums.{sum_by-cons}
 use Rattle.nm_types.specs.declared.id.LeaseId.{LeaseId}
 use Rattle.nm_types.specs.Frames.{Frame, slots_of, size_of_frames}
 use Rattle.nm_types.proofs.Sizes.{size_of_frames-length}
+use Rattle.nm_types.proofs.Tests.{or_second}
 use Rattle.nm_region.specs.Buffers.{indices_of}
 use Rattle.vale_line.specs.declared.got.Got.{Got}
 use Rattle.vale_line.specs.Fitting.{fitting_sizes, IsFrameSize}
@@ -315,10 +316,6 @@ clear_gives_all seat p is line none =
 
 -- where a lease is found there is a lot of its number
 
-or-right : (a b : Bool) → b ≡ true → (a || b) ≡ true
-or-right true b e = refl
-or-right false b e = e
-
 lease-numbered : (number : ℕ) (lots : List Lot) (lists : List (List ℕ)) (x : LotSeat) → lease_among number lots lists ≡ Some x → list_any (is_numbered number) lots ≡ true
 lease-numbered number [] lists x e = absurd cc
 lease-numbered number (lot ∷ lots) [] x e = absurd cc
@@ -326,7 +323,7 @@ lease-numbered number (lot ∷ lots) (list ∷ lists) x e = elim (cases_Bool (is
   | inl here ↦ let numbered : is_numbered number lot ≡ true = (and_parts (lot.number == number) (not lot.is_done) here).0 in rw numbered refl
   | inr other ↦
       let rest : lease_among number lots lists ≡ Some x = rw other at e in
-      or-right (is_numbered number lot) (list_any (is_numbered number) lots) (lease-numbered number lots lists x rest)
+      or_second (is_numbered number lot) (list_any (is_numbered number) lots) (lease-numbered number lots lists x rest)
 ]
 
 numbered-by : (number : ℕ) (seat : Seat) (frames : KeptFrames) (found : Option LotSeat) → lease_seat number seat ≡ found → option_map frames_of_seat found ≡ Some frames

@@ -3,6 +3,7 @@ use Rattle.std.proofs.Common.{ℕ, ◌≡◌, ◌≤◌, ◌-◌, ◌==◌, ◌&
 use Rattle.std.specs.List.{AllByRecursion as Each}
 use Rattle.std.specs.Option.{option_map_or}
 use Rattle.std.proofs.lemmas.Bool.{and_parts, eqb-true, ne_eqb}
+use Rattle.std.proofs.lemmas.Option.{same_Some}
 use Rattle.nm_types.specs.declared.fault.StepFault.TheVariants as faults
 use Rattle.nm_region.specs.Buffers.{Buffer, indices_of}
 use Rattle.nm_types.specs.Frames.{Frame}
@@ -92,14 +93,11 @@ acts b after ask made new legal is step-is mine has =
     subst (λ (r : Recorded). IsUser r new) (sym same)
     (user-own b (entry_of ask made) legal (step-follows (standing b) ask made step-is) new mine (subst (λ (r : Recorded). HasOwn r own' new) same has))
 
-some-same : (n m : ℕ) → Some n ≡ Some m → n ≡ m
-some-same n m e = cc
-
 -- which is the session of the port
 pub mine-by : (b : Recorded) (ask : Ask) (made : Outcome) (found : Option Port) (port : Port) → step (standing b) ask ≡ Some made → is_enter ask ≡ false
     → asker_of (standing b) ask ≡ option_map owner_of_port found → found ≡ Some port → port.session ≡ made.session
 mine-by b ask made found port is other whose here =
-    some-same port.session made.session (sym (ap (option_map owner_of_port) here) ∙ (sym whose ∙ askers-make-steps (standing b) ask made other is))
+    same_Some port.session made.session (sym (ap (option_map owner_of_port) here) ∙ (sym whose ∙ askers-make-steps (standing b) ask made other is))
 
 -- the destinations of its entry
 pub last-told : (b after : Recorded) (ask : Ask) (made : Outcome) → after ≡ after_ask b ask → step (standing b) ask ≡ Some made → last_dests after.entries ≡ dests_in made.reply

@@ -3,7 +3,7 @@ use Rattle.std.proofs.Common.{ℕ, zero, suc, get_or, ◌≡◌, ◌==◌, Bool,
 use Rattle.std.specs.Prelude.{find, IfSome, ◌≢◌}
 use Rattle.std.specs.List.{list_any}
 use Rattle.std.proofs.lemmas.Bool.{eqb-true}
-use Rattle.std.proofs.lemmas.Option.{get_or_from_slice_get}
+use Rattle.std.proofs.lemmas.Option.{get_or_from_slice_get, same_Some}
 use Rattle.nm_types.specs.declared.fault.StepFault.{StepFault}
 use Rattle.nm_types.specs.declared.id.PortId.{PortId}
 use Rattle.nm_types.specs.declared.id.SessionId.{SessionId}
@@ -63,9 +63,6 @@ set-same users place b old new k here id is = record {
   each = each-set (IsUser b) users place new k.each is;
 }
 
-some-same : (n m : ℕ) → Some n ≡ Some m → n ≡ m
-some-same n m e = cc
-
 acted_by : (b after : Recorded) (users : List User) (place : ℕ) (old new : User) (ask : Ask) (found : Option Outcome) → AreUsersOf b users → slice_get users place ≡ Some old → new.id ≡ old.id
     → IsUser after new → step (standing b) ask ≡ found → after ≡ after_ask b ask → comes_or_goes (kept_ask ask) ≡ false → is_enter ask ≡ false → asker_of (standing b) ask ≡ Some old.id.0
     → AreUsersOf after (slice_set users place new)
@@ -74,7 +71,7 @@ acted_by b after users place old new ask None k here id is step-is grew other no
     subst (λ (r : Recorded). AreUsersOf r (slice_set users place new)) (sym same) (set-same users place b old new k here id (subst (λ (r : Recorded). IsUser r new) same is))
 acted_by b after users place old new ask (Some made) k here id is step-is grew other no-enter asker =
     let same : after ≡ grown b (entry_of ask made) = grew ∙ ap (after_outcome b ask) step-is in
-    let whose : old.id.0 ≡ made.session = some-same old.id.0 made.session (sym asker ∙ askers-make-steps (standing b) ask made no-enter step-is) in
+    let whose : old.id.0 ≡ made.session = same_Some old.id.0 made.session (sym asker ∙ askers-make-steps (standing b) ask made no-enter step-is) in
     drive-set b users k ask made step-is after place old new (slice_set users place new) grew
     (sessions-stay b.pool b.entries (entry_of ask made) (step-follows (standing b) ask made step-is) other) here whose (ap (λ (i : SessionId). i.0) id) refl
     (subst (λ (r : Recorded). IsUser r new) same is)

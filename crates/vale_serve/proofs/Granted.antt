@@ -5,7 +5,7 @@ use Rattle.std.specs.List.{AllByRecursion as Each, cons_option}
 use Rattle.std.specs.Option.{option_map_or}
 use Rattle.std.proofs.lemmas.Bool.{eqb-true, eq-eqb, ne_eqb}
 use Rattle.std.proofs.lemmas.List.{length-map, map-append}
-use Rattle.std.proofs.lemmas.Option.{slice_get-map}
+use Rattle.std.proofs.lemmas.Option.{slice_get-map, slice_get_within}
 use Rattle.nm_types.specs.Frames.{Frame, slots_of, size_of_frames}
 use Rattle.nm_types.proofs.Sizes.{size_of_frames-length}
 use Rattle.nm_types.specs.declared.id.PortId.{PortId}
@@ -127,11 +127,6 @@ ones : (frames : List Frame) → Each (λ (n : ℕ). n ≡ 1) (map slots_of fram
 ones [] = tt
 ones (frame ∷ frames) = (refl, ones frames)
 
-get-within : {X : Type 0} (xs : List X) (i : ℕ) (x : X) → slice_get xs i ≡ Some x → i < length xs
-get-within [] i x e = absurd cc
-get-within (y ∷ ys) zero x e = omega arith
-get-within (y ∷ ys) (suc i) x e = let rest = get-within ys i x e in omega (arith, rest)
-
 cut : {X : Type 0} (x y : X) (xs ys : List X) → x ∷ xs ≡ y ∷ ys → (x ≡ y) × (xs ≡ ys)
 cut x y xs ys e = (cc, cc)
 
@@ -141,7 +136,7 @@ places-there frames [] wanted e = tt
 places-there frames (p ∷ ps) [] e = absurd cc
 places-there frames (p ∷ ps) (f ∷ fs) e =
     let parts = cut (slice_get frames p) (Some f) (map (slice_get frames) ps) (map (λ (g : Frame). Some g) fs) e in
-    (get-within frames p f parts.0, places-there frames ps fs parts.1)
+    (slice_get_within frames p f parts.0, places-there frames ps fs parts.1)
 
 as-many-places : (frames : List Frame) (places : List ℕ) (wanted : List Frame) → map (slice_get frames) places ≡ map (λ (f : Frame). Some f) wanted → length places ≡ length wanted
 as-many-places frames places wanted e = sym (length-map places (slice_get frames)) ∙ (ap (λ (xs : List (Option Frame)). length xs) e ∙ length-map wanted (λ (f : Frame). Some f))

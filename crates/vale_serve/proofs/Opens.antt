@@ -1,9 +1,10 @@
 -- A session opens a port, and has its buffers.
-use Rattle.std.proofs.Common.{ℕ, ◌≡◌, ◌≤◌, ◌+◌, List, [], ◌∷◌, ◌++◌, length, map, take, drop, Some, refl, sym, ◌∙◌, ap, subst, arith, length-append, ap₂}
+use Rattle.std.proofs.Common.{ℕ, ◌≡◌, ◌≤◌, ◌+◌, List, [], ◌∷◌, ◌++◌, length, map, take, drop, refl, sym, ◌∙◌, ap, subst, arith, length-append, ap₂}
 use Rattle.std.specs.Prelude.{vec_capacity, Vec}
 use Rattle.std.specs.List.{AllByRecursion as Each}
 use Rattle.std.specs.declared.alloc.Global.{Global}
 use Rattle.std.proofs.lemmas.List.{map-append}
+use Rattle.std.proofs.lemmas.Option.{same_Some}
 use Rattle.nm_region.specs.Buffers.{Buffer, indices_of}
 use Rattle.nm_types.specs.declared.id.SessionId.{SessionId}
 use Rattle.nm_types.specs.declared.fault.OpenFault.{OpenFault}
@@ -31,9 +32,6 @@ use Rattle.vale_serve.proofs.Acting.{Said, said, later, acts}
 use Rattle.vale_serve.specs.declared.users.Room.{Room}
 use Rattle.vale_entry.specs.Laws.{id_of_port}
 use Rattle.vale_entry.proofs.Worlds.{count-world_of}
-
-some-same : (n m : ℕ) → Some n ≡ Some m → n ≡ m
-some-same n m e = cc
 
 -- what each is gives the same buffers
 pub same-append : (xs ys ms ns : List ℕ) → AreSame xs ms → AreSame ys ns → AreSame (xs ++ ys) (ms ++ ns)
@@ -67,7 +65,7 @@ module _ (b after : Recorded) (old new : User) (name : List ℕ) (tx rx extra : 
   own = own_of old.id.0 (standing b)
 
   mine : old.id.0 ≡ s.made.session
-  mine = some-same old.id.0 s.made.session (askers-make-steps (standing b) (Open old.id name tx rx extra) s.made refl s.is)
+  mine = same_Some old.id.0 s.made.session (askers-make-steps (standing b) (Open old.id name tx rx extra) s.made refl s.is)
 
   abbrev kept : Room
   kept = record { port = opened.port; bufs = room }
@@ -117,7 +115,7 @@ refused-kept : (b after : Recorded) (user : User) (name : List ℕ) (tx rx extra
 refused-kept b after user name tx rx extra fault legal is recorded =
     let ask = Open user.id name tx rx extra in
     let s : Said b ask (Refused fault) = said b ask (Refused fault) recorded.reply_is in
-    let mine : user.id.0 ≡ s.made.session = some-same user.id.0 s.made.session (askers-make-steps (standing b) ask s.made refl s.is) in
+    let mine : user.id.0 ≡ s.made.session = same_Some user.id.0 s.made.session (askers-make-steps (standing b) ask s.made refl s.is) in
     let own = own_of user.id.0 (standing b) in
     acts b after ask s.made user legal recorded.entry s.is mine
     (subst (λ (n : ℕ). HasOwn after (own_after_entry (standing b) ask s.made.reply (own_of n (standing b))) user) mine

@@ -11,6 +11,7 @@ use Rattle.nm_types.specs.Sendable.{fits_buffer}
 use Rattle.nm_types.specs.declared.fault.StepFault.TheVariants as faults
 use Rattle.nm_types.specs.declared.id.PortId.{PortId}
 use Rattle.nm_types.specs.declared.id.SessionId.{SessionId}
+use Rattle.nm_types.proofs.Tests.{not_false}
 use Rattle.nm_region.specs.Buffers.{Buffer, indices_of}
 use Rattle.vale_batch.specs.Wants.{Wanted}
 use Rattle.vale_line.specs.declared.got.Got.{Got}
@@ -107,16 +108,12 @@ contains-take n (suc t) (x ∷ xs) e = by (x == n) e (contains-take n t xs)
     by true e rest = absurd cc
     by false e rest = rest e
 
-not-false : (t : Bool) → not t ≡ true → t ≡ false
-not-false true e = absurd cc
-not-false false e = refl
-
 distinct-take : (t : ℕ) (xs : List ℕ) → are_distinct xs ≡ true → are_distinct (take t xs) ≡ true
 distinct-take zero xs e = refl
 distinct-take (suc t) [] e = refl
 distinct-take (suc t) (x ∷ xs) e =
     let parts = and_parts (not (contains x xs)) (are_distinct xs) e in
-    ap₂ (λ (s r : Bool). not s && r) (contains-take x t xs (not-false (contains x xs) parts.0)) (distinct-take t xs parts.1)
+    ap₂ (λ (s r : Bool). not s && r) (contains-take x t xs (not_false (contains x xs) parts.0)) (distinct-take t xs parts.1)
 
 all-take : (test : ℕ → Bool) (t : ℕ) (xs : List ℕ) → list_all test xs ≡ true → list_all test (take t xs) ≡ true
 all-take test zero xs e = refl

@@ -8,6 +8,7 @@ use Rattle.nm_types.specs.Names.{is_name}
 use Rattle.nm_types.specs.declared.id.PortId.{PortId}
 use Rattle.nm_types.specs.declared.id.SessionId.{SessionId}
 use Rattle.nm_types.specs.declared.id.LeaseId.{LeaseId}
+use Rattle.nm_types.proofs.Tests.{not_false, or_true}
 use Rattle.vale_line.specs.Leased.{Leased}
 use Rattle.vale_entry.specs.declared.entry.Ask.TheVariants.{Open, Grant, Done}
 use Rattle.vale_entry.specs.World.{Port, Lot, Offer, is_session}
@@ -100,10 +101,6 @@ none-granted b users origin to k none = granted_by b users origin to (first_offe
 
 -- ---- leases
 
-or-on : (t : Bool) → (t || true) ≡ true
-or-on true = refl
-or-on false = refl
-
 has-held : (b : Recorded) (n : ℕ) (helds : List HeldLot) (leases : List Leased) → AreHeldAs b helds leases → is_some (find (is_lease_lot n) (map lot_of_lease helds)) ≡ true
     → list_any (is_lease n) leases ≡ true
 has-held b n [] [] are e = absurd cc
@@ -114,15 +111,11 @@ has-held b n (h ∷ hs) (l ∷ ls) are e = by (h.0.number == n) refl e (has-held
     by : (t : Bool) → (h.0.number == n) ≡ t → is_some (cond (t && not h.0.is_done) (Some h.0) (find (is_lease_lot n) (map lot_of_lease hs))) ≡ true
         → (is_some (find (is_lease_lot n) (map lot_of_lease hs)) ≡ true → list_any (is_lease n) ls ≡ true) → (is_lease n l || list_any (is_lease n) ls) ≡ true
     by true is e rest = ap (λ (t : Bool). t || list_any (is_lease n) ls) (eq-eqb l.id n (sym are.0.number ∙ eqb-true h.0.number n is))
-    by false is e rest = ap (λ (t : Bool). is_lease n l || t) (rest e) ∙ or-on (is_lease n l)
+    by false is e rest = ap (λ (t : Bool). is_lease n l || t) (rest e) ∙ or_true (is_lease n l)
 
 each-lots : (sessions : List ℕ) (ports : List Port) → Each (HasLeasesOf sessions) ports → Each (IsLotOf sessions) (flat_map line_of ports)
 each-lots sessions [] all = tt
 each-lots sessions (p ∷ ps) all = each-append (IsLotOf sessions) p.line (flat_map line_of ps) all.0 (each-lots sessions ps all.1)
-
-not-done : (t : Bool) → not t ≡ true → t ≡ false
-not-done true e = absurd cc
-not-done false e = refl
 
 done_by : (b : Recorded) (users : List User) (id : LeaseId) (found : Option Lot) → AreUsersOf b users → position (has_lease id.0) users ≡ None
     → lease_at (standing b).world.ports id.0 ≡ found → is_some found ≡ false
@@ -130,7 +123,7 @@ done_by b users id None k none e = refl
 done_by b users id (Some lot) k none e =
     let w = world_of b.pool b.entries in
     let place = place-of (is_lease_lot id.0) (flat_map line_of w.ports) lot e in
-    let out = not-done lot.is_done (and_parts (lot.number == id.0) (not lot.is_done) place.passes).1 in
+    let out = not_false lot.is_done (and_parts (lot.number == id.0) (not lot.is_done) place.passes).1 in
     let owned = each-find (IsLotOf w.sessions) (is_lease_lot id.0) (flat_map line_of w.ports) lot (each-lots w.sessions w.ports (world-numbered b.pool b.entries).leases_owned) e out in
     let u = user-of b users lot.session k owned in
     let asked : asks (standing b) u.user.id.0 (Done id) ≡ true =
@@ -209,7 +202,7 @@ asker-done b user id legal is mine =
 on-at : {X : Type 0} (test : X → Bool) (xs : List X) (i : ℕ) (x : X) → slice_get xs i ≡ Some x → test x ≡ true → list_any test xs ≡ true
 on-at test [] i x here is = absurd cc
 on-at test (y ∷ ys) zero x here is = let same : y ≡ x = cc in ap (λ (t : Bool). t || list_any test ys) (ap test same ∙ is)
-on-at test (y ∷ ys) (suc i) x here is = ap (λ (t : Bool). test y || t) (on-at test ys i x here is) ∙ or-on (test y)
+on-at test (y ∷ ys) (suc i) x here is = ap (λ (t : Bool). test y || t) (on-at test ys i x here is) ∙ or_true (test y)
 
 pub session-there : (b : Recorded) (users : List User) (place : ℕ) (user : User) → AreUsersOf b users → slice_get users place ≡ Some user → is_session (standing b).world user.id.0 ≡ true
 session-there b users place user k here =

@@ -4,6 +4,7 @@ use Rattle.std.specs.List.{list_all, remove}
 use Rattle.std.proofs.lemmas.Bool.{and_parts, eqb-true, eq-eqb}
 use Rattle.std.proofs.lemmas.List.{map-append}
 use Rattle.std.proofs.lemmas.Option.{get_or_from_slice_get}
+use Rattle.nm_types.proofs.Tests.{not_false}
 use Rattle.nm_region.specs.Buffers.{Buffer, indices_of}
 use Rattle.vale_entry.specs.Holdings.{contains, are_distinct, buffers_without}
 use Rattle.vale_entry.proofs.Counting.{count_of-cons, count_of-append, contains-count, contains-none, count-away}
@@ -116,10 +117,6 @@ all-at test [] i n all here = absurd cc
 all-at test (m ∷ ms) zero n all here = let same : m ≡ n = cc in ap test (sym same) ∙ (and_parts (test m) (list_all test ms) all).0
 all-at test (m ∷ ms) (suc i) n all here = all-at test ms i n (and_parts (test m) (list_all test ms) all).1 here
 
-not-true : (t : Bool) → not t ≡ true → t ≡ false
-not-true true e = absurd cc
-not-true false e = refl
-
 -- what is named once does not stand before its place
 earlier-none : (named : List ℕ) (i n : ℕ) → are_distinct named ≡ true → slice_get named i ≡ Some n → contains n (take i named) ≡ false
 earlier-none [] i n d here = absurd cc
@@ -127,7 +124,7 @@ earlier-none (m ∷ ms) zero n d here = refl
 earlier-none (m ∷ ms) (suc i) n d here =
     let parts = and_parts (not (contains m ms)) (are_distinct ms) d in
     let rest = earlier-none ms i n parts.1 here in
-    let off : (m == n) ≡ false = other (m == n) refl (not-true (contains m ms) parts.0) in
+    let off : (m == n) ≡ false = other (m == n) refl (not_false (contains m ms) parts.0) in
     ap₂ (λ (s t : Bool). s || t) off rest
   where
     there : (ns : List ℕ) (j : ℕ) → slice_get ns j ≡ Some n → contains n ns ≡ true

@@ -8,14 +8,6 @@ each-remove P [] (suc place) all = tt
 each-remove P (x ∷ xs) zero all = all.1
 each-remove P (x ∷ xs) (suc place) all = (all.0, each-remove P xs place all.1)
 
-pub each-left : {X : Type 0} (P : X → Type 0) (xs ys : List X) → Each P (xs ++ ys) → Each P xs
-each-left P [] ys all = tt
-each-left P (x ∷ xs) ys all = (all.0, each-left P xs ys all.1)
-
-pub each-right : {X : Type 0} (P : X → Type 0) (xs ys : List X) → Each P (xs ++ ys) → Each P ys
-each-right P [] ys all = all
-each-right P (x ∷ xs) ys all = each-right P xs ys all.1
-
 pub each-take : {X : Type 0} (P : X → Type 0) (n : ℕ) (xs : List X) → Each P xs → Each P (take n xs)
 each-take P zero xs all = tt
 each-take P (suc n) [] all = tt

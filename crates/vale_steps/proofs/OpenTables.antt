@@ -10,6 +10,7 @@ use Rattle.std.proofs.lemmas.Slice.Eq.{bytes_eq-Decides}
 use Rattle.vale_names.proofs.SwitchLemmas.{position_none}
 use Rattle.nm_types.specs.Names.{switch_of}
 use Rattle.nm_types.specs.Openings.{is_on_switch as is_name_on}
+use Rattle.nm_types.proofs.Tests.{or_true}
 use Rattle.vale_learn.specs.AddressTable.{no_stations}
 use Rattle.vale_entry.specs.World.{Port}
 use Rattle.vale_entry.specs.Opening.{is_on_switch}
@@ -23,14 +24,10 @@ use Rattle.vale_steps.specs.NamedTables.{table_seen}
 use Rattle.vale_steps.specs.OpenParts.{is_port_on, is_vacant, name_of_state, name_of_port, StillTables}
 use Rattle.vale_steps.proofs.NamedTables.{any-map, seen-any}
 
-or-true : (b : Bool) → (b || true) ≡ true
-or-true true = refl
-or-true false = refl
-
 any-set : {X : Type 0} (test : X → Bool) (xs : List X) (at : ℕ) (x : X) → at < length xs → test x ≡ true → list_any test (slice_set xs at x) ≡ true
 any-set test [] at x within passes = absurd (omega (arith, within))
 any-set test (y ∷ ys) zero x within passes = ap (λ (b : Bool). b || list_any test ys) passes
-any-set test (y ∷ ys) (suc at) x within passes = ap (λ (b : Bool). test y || b) (any-set test ys at x (omega (arith, within)) passes) ∙ or-true (test y)
+any-set test (y ∷ ys) (suc at) x within passes = ap (λ (b : Bool). test y || b) (any-set test ys at x (omega (arith, within)) passes) ∙ or_true (test y)
 
 -- the ports of a list and those of a world are on the same switches
 pub used-same : (switch : List ℕ) (ps : List PortState) (ports : List Port) → map name_of_state ps ≡ map name_of_port ports
@@ -77,7 +74,7 @@ added-there tables new =
     let own : is_table_of (switch_of new.label) (table_seen new) ≡ true = (bytes_eq-Decides (switch_of new.label) (switch_of new.label)).1 refl in
     ap (has_table (switch_of new.label)) (map-append table_seen tables (new ∷ []))
     ∙ (list_any-append (is_table_of (switch_of new.label)) (map table_seen tables) (table_seen new ∷ [])
-    ∙ (ap (λ (b : Bool). has_table (switch_of new.label) (map table_seen tables) || (b || false)) own ∙ or-true (has_table (switch_of new.label) (map table_seen tables))))
+    ∙ (ap (λ (b : Bool). has_table (switch_of new.label) (map table_seen tables) || (b || false)) own ∙ or_true (has_table (switch_of new.label) (map table_seen tables))))
 
 pub added-kept : (ps : List PortState) (tables : List NamedTable) (new : NamedTable) → new.table ≡ no_stations → has_table (switch_of new.label) (map table_seen tables) ≡ false
     → StillTables ps tables (tables ++ new ∷ [])

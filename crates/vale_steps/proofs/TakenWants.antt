@@ -2,9 +2,9 @@
 use Rattle.std.proofs.Common.{ℕ, ◌≡◌, List, [], ◌∷◌, ◌++◌, map, sym, ◌∙◌, ap, subst}
 use Rattle.std.specs.List.{AllByRecursion as Each}
 use Rattle.std.proofs.lemmas.List.{map-append, same_from_push}
+use Rattle.nm_types.proofs.Lists.{each-front, each-back}
 use Rattle.vale_batch.specs.declared.lists.Want.{Want}
 use Rattle.vale_steps.specs.Offering.{slots_in, HasFewFrames}
-use Rattle.vale_steps.proofs.Lists.{each-left, each-right}
 
 -- a room and a want go together
 pub record IsTaken (rooms : List ℕ) (wants : List Want) (room : ℕ) (want : Want) : Type 0 where
@@ -20,4 +20,4 @@ taken all rooms wants others room want are few cut left =
     sym cut ∙ (are ∙ (ap (map slots_in) left ∙ map-append slots_in others (want ∷ []))) in
     let parts = same_from_push rooms (map slots_in others) room (slots_in want) same in
     let each = subst (Each HasFewFrames) left few in
-    record { left = parts.0; own = parts.1; few = (each-right HasFewFrames others (want ∷ []) each).0; others = each-left HasFewFrames others (want ∷ []) each }
+    record { left = parts.0; own = parts.1; few = (each-back HasFewFrames others (want ∷ []) each).0; others = each-front HasFewFrames others (want ∷ []) each }

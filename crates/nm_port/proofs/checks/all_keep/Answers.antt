@@ -1,7 +1,7 @@
 use Rattle.std.proofs.Common.{arith}
+use Rattle.nm_types.proofs.Tests.{false_true}
 use Rattle.nm_hold.specs.Holds.{AreNumbers}
 use Rattle.nm_port.specs.Exchanges.{pushed_count_of}
-use Rattle.nm_port.proofs.Judging.{false_true}
 use Rattle.nm_port.proofs.Keeping.{kept_passes}
 use Rattle.nm_port.proofs.checks.all_keep.Goals as goal
 

@@ -2,12 +2,12 @@ use Rattle.std.proofs.Common.{◌≡◌, ◌+◌, ◌++◌, ◌∷◌, [], List,
 use Rattle.std.proofs.lemmas.List.{append_assoc}
 use Rattle.nm_frag.specs.Parts.{slots_of_length}
 use Rattle.nm_types.specs.Frames.{Frame}
+use Rattle.nm_types.proofs.Lists.{drop-slice_get}
 use Rattle.std.specs.Prelude.{length}
 use Rattle.vale_learn.specs.AddressTable.{Entries}
 use Rattle.vale_batch.specs.declared.looking.Destination.{Destination}
 use Rattle.vale_batch.specs.declared.looking.Looked.{Looked}
 use Rattle.vale_batch.specs.Looking.{looked_up, looked_up_batch, learned_of_batch}
-use Rattle.vale_batch.proofs.Teaching.{drop-at}
 use Rattle.vale_batch.proofs.looking.look_up.Goals as goal
 
 pub loop-i-preserved : goal.loop-i-preserved
@@ -17,7 +17,7 @@ loop-i-preserved c =
     let i = c.loop-i.i in
     let frame : Frame = record { bytes = c.get-no_learn.result.0.now; no_learn = c.get-no_learn.result.1 } in
     let rest = drop (i + 1) batch in
-    let cut : drop i batch ≡ frame ∷ rest = drop-at batch i frame c.get-no_learn.ensures in
+    let cut : drop i batch ≡ frame ∷ rest = drop-slice_get batch i frame c.get-no_learn.ensures in
     let follow = c.in_ok-went in
     let taught = follow.ensures.table in
     let here : Looked = looked_up from c.follow.new.table frame in
