@@ -2,6 +2,8 @@ pub mod Back
 pub mod Cuts
 pub mod Entries
 pub mod Numerals
+mod HexValues
+mod Marks
 mod Pairs
 mod Parts
 mod Rising

@@ -2,6 +2,7 @@
 ghost use Rattle.std.specs.Prelude.{◌≡◌, ◌<◌, ◌++◌, ◌∷◌, [], ℕ, List, min, length, IsTrue, IfOk, OnOk};
 ghost use Rattle.vale_fields.specs.Fields.{long_of, short_of, half_of, hex_value, bytes_of, is_marked, frame_of, front_by, back_by, mark_in, span_of, dest_of, item_of, name_of};
 
+use memchr::memchr;
 use nm_types::{Batch, Frame, Name, NoMemory, PortId};
 use std::alloc::Global;
 use vale_entry::{Dest, Item, Span};
@@ -34,19 +35,27 @@ pub(crate) fn half_of(word: &[u8]) -> u16
     long_of(word).min(u16::MAX as u64) as u16
 }
 
+/// What each byte stands for as a hexadecimal digit in lower case; 0 for a byte that is none.
+static HEX_VALUES: [u8; 256] = [
+    0, 0, 0, 0, 0, 0, 0, 0, 0, 0, 0, 0, 0, 0, 0, 0, 0, 0, 0, 0, 0, 0, 0, 0, 0, 0, 0, 0, 0, 0, 0, 0,
+    0, 0, 0, 0, 0, 0, 0, 0, 0, 0, 0, 0, 0, 0, 0, 0, 0, 1, 2, 3, 4, 5, 6, 7, 8, 9, 0, 0, 0, 0, 0, 0,
+    0, 0, 0, 0, 0, 0, 0, 0, 0, 0, 0, 0, 0, 0, 0, 0, 0, 0, 0, 0, 0, 0, 0, 0, 0, 0, 0, 0, 0, 0, 0, 0,
+    0, 10, 11, 12, 13, 14, 15, 0, 0, 0, 0, 0, 0, 0, 0, 0, 0, 0, 0, 0, 0, 0, 0, 0, 0, 0, 0, 0, 0, 0,
+    0, 0, 0, 0, 0, 0, 0, 0, 0, 0, 0, 0, 0, 0, 0, 0, 0, 0, 0, 0, 0, 0, 0, 0, 0, 0, 0, 0, 0, 0, 0, 0,
+    0, 0, 0, 0, 0, 0, 0, 0, 0, 0, 0, 0, 0, 0, 0, 0, 0, 0, 0, 0, 0, 0, 0, 0, 0, 0, 0, 0, 0, 0, 0, 0,
+    0, 0, 0, 0, 0, 0, 0, 0, 0, 0, 0, 0, 0, 0, 0, 0, 0, 0, 0, 0, 0, 0, 0, 0, 0, 0, 0, 0, 0, 0, 0, 0,
+    0, 0, 0, 0, 0, 0, 0, 0, 0, 0, 0, 0, 0, 0, 0, 0, 0, 0, 0, 0, 0, 0, 0, 0, 0, 0, 0, 0, 0, 0, 0, 0,
+    0, 0,
+];
+
 /// What a hexadecimal digit in lower case stands for; 0 for any other byte.
-#[tactic(auto, unfolding(crate::specs::Fields::hex_value))]
+#[tactic(auto, using(crate::proofs::HexValues::hex_values))]
+#[inline(always)]
 fn hex_value(b: u8) -> u8
     ensures value { result ≡ hex_value b }
     ensures low { result < 16 }
 {
-    if (b'0'..=b'9').contains(&b) {
-        b - b'0'
-    } else if (b'a'..=b'f').contains(&b) {
-        b - b'a' + 10
-    } else {
-        0
-    }
+    HEX_VALUES[b as usize]
 }
 
 /// The bytes that hexadecimal digits write.
@@ -92,10 +101,11 @@ pub(crate) fn push_frame(alloc: Global, frames: &mut Batch, word: &[u8]) -> Resu
     frames.push(&bytes, no_learn)
 }
 
-fn mark_in(mark: u8, word: &[u8]) -> Option<usize>
+/// Where a mark stands first.
+pub fn mark_in(mark: u8, word: &[u8]) -> Option<usize>
     ensures { result ≡ mark_in mark word.now }
 {
-    word.iter().position(|b| *b == mark)
+    memchr(mark, word)
 }
 
 /// What stands before a mark, and what behind it.

@@ -10,7 +10,7 @@ mod lists;
 mod printable;
 mod rows;
 
-pub use fields::{cut_at, short_of};
+pub use fields::{cut_at, mark_in, short_of};
 pub use lists::words_of;
 pub use printable::is_printable;
 pub use rows::entry_of;
