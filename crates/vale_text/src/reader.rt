@@ -14,7 +14,7 @@ use crate::transcript::{Lines, is_text};
 use nm_types::{MAX_POOL, NoMemory};
 use std::alloc::{AllocFailed, Global};
 use vale_entry::{Ask, Entry};
-use vale_fields::{cut_at, entry_of, is_printable, short_of, words_of};
+use vale_fields::{cut_at, entry_of, is_printable, mark_in, short_of, words_of};
 
 /// Why a text was not read.
 #[derive(Clone, Copy, Debug, PartialEq, Eq)]
@@ -45,7 +45,7 @@ impl<T: Drop> From<AllocFailed<T>> for TextFault {
 fn line_feed_in(bytes: &[u8]) -> Option<usize>
     ensures { result ≡ position is_line_feed bytes.now }
 {
-    bytes.iter().position(|b| *b == b'\n')
+    mark_in(b'\n', bytes)
 }
 
 /// The first line with its line feed, and what follows it; `None` if no line ends.
