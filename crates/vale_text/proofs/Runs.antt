@@ -41,3 +41,16 @@ first-of-run version ns first len last apart r end =
     ap (λ (b : Bool). if b then map single_span ns else spans_of ns) is
     ∙ (run-span ns first len last r end
     ∙ sym (ap (λ (b : Bool). record { first = first; last = last } ∷ (if b then map single_span (drop len ns) else spans_of (drop len ns))) is))
+
+-- a number that has not its neighbour behind it
+pub alone-first : (n : ℕ) (ns : List ℕ) → (get_or ns 0 0 ≡ n + 1 → ⊥) → spans_in 2 (n ∷ ns) ≡ single_span n ∷ spans_in 2 ns
+alone-first n ns alone =
+    first-of-run 2 (n ∷ ns) n 1 n (λ is. absurd cc) run (omega arith)
+  where
+    run : IsRun (n ∷ ns) n 1
+    run = record {
+      some = omega arith;
+      within = omega arith;
+      run = refl;
+      stops = λ next rest is same. alone (ap (λ (t : List ℕ). get_or t 0 0) is ∙ same);
+    }

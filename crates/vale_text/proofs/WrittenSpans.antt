@@ -1,8 +1,9 @@
 -- Writing the spans of numbers, one after another.
-use Rattle.std.proofs.Common.{◌≡◌, ◌≤◌, ◌<◌, ◌==◌, ℕ, Bool, true, false, if◌then◌else◌, List, [], ◌∷◌, ◌++◌, length, map, Option, Result, refl, sym, ap, subst, ◌∙◌, arith, append_assoc}
+use Rattle.std.proofs.Common.{◌≡◌, ◌≤◌, ◌<◌, ◌+◌, ◌==◌, ℕ, zero, suc, Bool, true, false, if◌then◌else◌, List, [], ◌∷◌, ◌++◌, length, map, take, drop, get_or, decimal, codes, Option, Result, refl, sym, ap, subst, ◌∙◌, arith, append_assoc, length-drop}
 use Rattle.std.specs.List.{flat_map}
 use Rattle.std.proofs.lemmas.List.{append-nil}
 use Rattle.std.proofs.lemmas.Grind.{flat_map-append}
+use Rattle.std.proofs.lemmas.Bool.{eq-eqb}
 use Rattle.nm_io.specs.Held.{GrowsByPrefix}
 use Rattle.nm_io.specs.Gathered.{Gathered, Gathers}
 use Rattle.nm_io.proofs.Gathering.{gathered_more, gathered_fails, grows_past}
@@ -10,9 +11,10 @@ use Rattle.vale_entry.specs.declared.entry.Span.{Span}
 use Rattle.vale_entry.specs.Spans.{single_span, spans_of, spans_in}
 use Rattle.vale_entry.specs.Transcript.{span_text, buffers_text, list_text}
 use Rattle.vale_text.specs.Pieces.{behind}
-use Rattle.vale_text.specs.Spans.{ArePlaced, AreAdded}
+use Rattle.vale_text.specs.Spans.{AreAlone, ArePlaced, AreAdded}
 use Rattle.vale_text.specs.Placed.{Placed}
 use Rattle.vale_text.proofs.Places.{placed-then}
+use Rattle.vale_text.proofs.Runs.{alone-first}
 use Rattle.vale_text.proofs.Strips.{adds, gathers_after, list_text-is}
 
 -- some spans, each behind a comma, are on their way, and those of the rest are not yet
@@ -98,15 +100,44 @@ first-placed a b at end numbers rest span p next fewer = record {
   fewer = omega (arith, fewer);
 }
 
-pub more-placed : (a b c : List ℕ) (at here end : ℕ) (numbers rest others : List ℕ) (span : Span) → ArePlaced a b at here numbers rest
-    → Placed b c here (behind 44 span_text span) end → spans_in 2 rest ≡ span ∷ spans_in 2 others → length others < length rest → ArePlaced a c at end numbers others
-more-placed a b c at here end numbers rest others span w p next fewer =
+-- lone numbers are spans by themselves
+lone-spans : (few : ℕ) (ns : List ℕ) → few < length ns → ((k : ℕ) → k < few → get_or ns (k + 1) 0 ≡ get_or ns k 0 + 1 → ⊥)
+    → spans_in 2 ns ≡ map single_span (take few ns) ++ spans_in 2 (drop few ns)
+lone-spans zero ns within alone = refl
+lone-spans (suc few) [] within alone = absurd (omega (arith, within))
+lone-spans (suc few) (n ∷ ns) within alone =
+    alone-first n ns (λ is. alone 0 (omega arith) is)
+    ∙ ap (λ (t : List Span). single_span n ∷ t) (lone-spans few ns (omega (arith, within)) (λ k low is. alone (suc k) (omega (arith, low)) (later k is)))
+  where
+    later : (k : ℕ) → get_or ns (k + 1) 0 ≡ get_or ns k 0 + 1 → get_or (n ∷ ns) (suc k + 1) 0 ≡ get_or ns k 0 + 1
+    later k is =
+        let next : suc k + 1 ≡ suc (k + 1) = omega arith in
+        ap (λ (j : ℕ). get_or (n ∷ ns) j 0) next ∙ is
+
+lone-text : (ns : List ℕ) → flat_map (behind 44 decimal) ns ≡ flat_map (behind 44 span_text) (map single_span ns)
+lone-text [] = refl
+lone-text (n ∷ ns) =
+    let one : span_text (single_span n) ≡ decimal n = ap (λ (b : Bool). if b then decimal n else decimal n ++ codes "-" ++ decimal n) (eq-eqb n n refl) in
+    ap (λ (t : List ℕ). behind 44 decimal n ++ t) (lone-text ns) ∙ ap (λ (t : List ℕ). (44 ∷ t) ++ flat_map (behind 44 span_text) (map single_span ns)) (sym one)
+
+-- the first few lone numbers
+pub lone-placed : (a b : List ℕ) (at end high : ℕ) (numbers : List ℕ) → AreAlone high numbers 4 → Placed a b at (flat_map (behind 44 decimal) (take 4 numbers)) end
+    → ArePlaced a b at end numbers (drop 4 numbers)
+lone-placed a b at end high numbers are p = record {
+  done = map single_span (take 4 numbers);
+  spans = lone-spans 4 numbers are.within are.alone;
+  placed = subst (λ (t : List ℕ). Placed a b at t end) (lone-text (take 4 numbers)) p;
+  fewer = omega (arith, length-drop 4 numbers);
+}
+
+-- and those of the rest
+pub both-placed : (a b c : List ℕ) (at here end : ℕ) (numbers rest others : List ℕ) → ArePlaced a b at here numbers rest
+    → ArePlaced b c here end rest others → ArePlaced a c at end numbers others
+both-placed a b c at here end numbers rest others w v =
     let f = behind 44 span_text in
-    let text : flat_map f (w.done ++ span ∷ []) ≡ flat_map f w.done ++ f span =
-    flat_map-append f w.done (span ∷ []) ∙ ap (λ (t : List ℕ). flat_map f w.done ++ t) (append-nil (f span)) in
     record {
-      done = w.done ++ span ∷ [];
-      spans = w.spans ∙ (ap (λ (t : List Span). w.done ++ t) next ∙ sym (append_assoc w.done (span ∷ []) (spans_in 2 others)));
-      placed = subst (λ (t : List ℕ). Placed a c at t end) (sym text) (placed-then w.placed p);
-      fewer = omega (arith, fewer, w.fewer);
+      done = w.done ++ v.done;
+      spans = w.spans ∙ (ap (λ (t : List Span). w.done ++ t) v.spans ∙ sym (append_assoc w.done v.done (spans_in 2 others)));
+      placed = subst (λ (t : List ℕ). Placed a c at t end) (sym (flat_map-append f w.done v.done)) (placed-then w.placed v.placed);
+      fewer = omega (arith, w.fewer, v.fewer);
     }

@@ -1,5 +1,5 @@
 //! Numbers in decimal digits. Most numbers of a transcript are below 10,000.
-ghost use Rattle.std.specs.Prelude.{◌≡◌, ◌≤◌, ◌<◌, ◌*◌, ◌/◌, ◌%◌, ◌+◌, ◌∷◌, [], length, decimal};
+ghost use Rattle.std.specs.Prelude.{◌≡◌, ◌≤◌, ◌<◌, ◌*◌, ◌/◌, ◌%◌, ◌+◌, ◌∷◌, [], length, decimal, IsTrue};
 ghost use Rattle.vale_text.specs.Pieces.{behind};
 ghost use Rattle.vale_text.specs.Placed.{Placed, PlacedFew};
 
@@ -148,6 +148,28 @@ fn place_other(buf: &mut [u8], at: usize, number: u64) -> (usize, u64)
     (place_large(buf, at, number), LEAST_HIGH)
 }
 
+/// Tells whether a number has four digits with these hundreds.
+#[inline(always)]
+pub(crate) fn shares(high: u64, number: u64) -> bool
+    requires { (10 ≤ high) × (high < 100) }
+    ensures { IsTrue result → (high * 100 ≤ number) × (number < high * 100 + 100) }
+{
+    number.wrapping_sub(high * 100) < 100
+}
+
+/// Writes a number behind a mark by the hundreds that it shares, and returns where it ends.
+#[inline(always)]
+pub(crate) fn place_shared(buf: &mut [u8], at: usize, mark: u8, high: u64, number: u64) -> usize
+    requires room { at + 5 ≤ length buf.old }
+    requires hundreds { (10 ≤ high) × (high < 100) }
+    requires shares { (high * 100 ≤ number) × (number < high * 100 + 100) }
+    ensures placed { Placed buf.old buf.new at (behind mark decimal number) result }
+    ensures within { result ≤ at + 5 }
+{
+    buf[at] = mark;
+    place_four(buf, at + 1, high, number - high * 100)
+}
+
 /// Writes a number behind a mark, and returns where its digits end, and hundreds of which the next number
 /// may share the digits: `high` is what was so returned of another number.
 #[inline(always)]
@@ -164,10 +186,9 @@ pub(crate) fn place_next(
     ensures within { result.0 ≤ at + 21 }
     ensures hundreds { (10 ≤ result.1) × (result.1 < 100) }
 {
-    buf[at] = mark;
-    let from = high * 100;
-    if from <= number && number - from < 100 {
-        return (place_four(buf, at + 1, high, number - from), high);
+    if shares(high, number) {
+        return (place_shared(buf, at, mark, high, number), high);
     }
+    buf[at] = mark;
     place_other(buf, at + 1, number)
 }
