@@ -9,8 +9,6 @@ mod reader;
 mod rows;
 mod spans;
 mod strip;
-#[cfg(test)]
-mod tests;
 mod transcript;
 
 pub use pieces::{Part, put_parts};

@@ -1,6 +1,5 @@
 ghost use Rattle.std.specs.Prelude.{[], ◌∷◌};
 
-use crate::{PutError, Text, TextFault, read, read_any, write_line, write_transcript};
 use nm_io::{MemorySink, Sink};
 use nm_types::{
     Batch, Chain, Counts, Frame, LeaseId, Name, OpenFault, PortId, SessionId, Side, Sides,
@@ -9,6 +8,7 @@ use nm_types::{
 use std::alloc::Global;
 use std::test::Fail;
 use vale_entry::{Ask, Dest, Dests, Entry, Item, Items, Numbers, Reply};
+use vale_text::{PutError, Text, TextFault, read, read_any, write_line, write_transcript};
 
 fn entry(session: u32, ask: Ask, reply: Reply) -> Entry {
     Entry {
