@@ -10,8 +10,6 @@ mod passing;
 mod scene;
 mod script_run;
 mod seat;
-#[cfg(test)]
-mod tests;
 pub mod units;
 
 pub use script_run::play;

@@ -9,8 +9,6 @@ mod migrate;
 mod playing;
 mod remains;
 mod status;
-#[cfg(test)]
-mod tests;
 
 pub use command::{run, run_leaving};
 pub use remains::Remains;

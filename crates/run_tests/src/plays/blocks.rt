@@ -3,7 +3,6 @@ ghost use Rattle.std.specs.Prelude.{◌≡◌, ◌<◌, IfOk, map};
 ghost use Rattle.vale_act.specs.Words.{IsSound, name_of};
 
 use super::script;
-use crate::play;
 use nm_io::{Gate, NoGate, Stage};
 use nm_types::{Batch, Limits, PortId};
 use pcap_io::Record;
@@ -14,6 +13,7 @@ use std::test::Fail;
 use std::thread;
 use std::thread::Threads;
 use std::time::{Clock, Duration};
+use vale_act::play;
 use vale_captures::{Input, Inputs};
 use vale_entry::{Ask, Entry, History, Reply};
 use vale_fabric::Fabric;

@@ -2,13 +2,13 @@
 ghost use Rattle.std.specs.Prelude.{◌<◌, ◌^◌};
 ghost use Rattle.vale_script.specs.Sound.{IsSound};
 
-use super::*;
 use nm_io::{MemoryShelf, NoGate};
 use nm_types::{Limits, Part, StepFault};
 use std::process::Abort;
 use std::sync::Wait;
 use std::test::Fail;
 use std::thread::Threads;
+use vale_act::play;
 use vale_captures::{Inputs, write_outputs};
 use vale_cases::FULL_RECORD;
 use vale_fabric::Fabric;

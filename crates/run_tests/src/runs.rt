@@ -1,10 +1,10 @@
-use super::*;
 use nm_io::{MemoryShelf, MemorySink, NoGate};
 use std::alloc::{AllocError, Global};
 use std::process::Abort;
 use std::sync::Wait;
 use std::test::Fail;
 use std::thread::Threads;
+use vale_run::{Status, report, run};
 
 mod captures;
 mod hostile;
