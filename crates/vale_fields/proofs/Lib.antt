@@ -6,6 +6,7 @@ mod HexValues
 mod Marks
 mod Pairs
 mod Parts
+mod Pieces
 mod Rising
 pub mod Sizes
 pub mod Splits

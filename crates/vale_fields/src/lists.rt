@@ -1,25 +1,14 @@
 //! The lists of a line.
-ghost use Rattle.std.specs.Prelude.{◌≡◌, ◌++◌, map, IfOk, OnOk};
+ghost use Rattle.std.specs.Prelude.{◌≡◌, ◌==◌, ◌<◌, ◌++◌, ◌∷◌, [], length, map, IfOk, IfSome, OnOk};
 ghost use Rattle.std.specs.List.{slice_split};
+ghost use Rattle.std.specs.Option.{IfNone};
 ghost use Rattle.vale_entry.specs.Spans.{numbers_in};
-ghost use Rattle.vale_fields.specs.Lists.{is_comma, is_blank, words_of, parts_of, numbers_of, dests_of, items_of, frames_of};
+ghost use Rattle.vale_fields.specs.Lists.{words_of, parts_of, numbers_of, dests_of, items_of, frames_of};
 
-use crate::fields::{Listed, push_frame, span_of};
+use crate::fields::{Listed, mark_in, push_frame, span_of};
 use nm_types::{Batch, NoMemory};
-use std::alloc::{AllocError, Global};
+use std::alloc::Global;
 use vale_entry::{Dests, Items, Numbers, Span};
-
-fn is_comma(b: u8) -> bool
-    ensures { result ≡ is_comma b }
-{
-    b == b','
-}
-
-fn is_blank(b: u8) -> bool
-    ensures { result ≡ is_blank b }
-{
-    b == b' '
-}
 
 /// How many words a line is read to have at most, and how many items a list. A pool has fewer
 /// buffers; a line of no history may have more.
@@ -30,10 +19,34 @@ fn has_many(mark: u8, text: &[u8]) -> bool {
     text.len() >= MOST_ITEMS && text.iter().filter(|b| **b == mark).count() >= MOST_ITEMS
 }
 
-fn split_blanks(alloc: Global, line: &[u8]) -> Result<Vec<&[u8]>, AllocError>
-    ensures { IfOk result (λ words. map (λ w. w.now) words.items ≡ words_of line.now) }
+/// The first piece of a text between marks, and what stands behind its mark; `None` if no mark stands
+/// in the text.
+fn first_piece(mark: u8, text: &[u8]) -> Option<(&[u8], &[u8])>
+    ensures some { IfSome result (λ cut. slice_split (λ b. b == mark) text.now ≡ cut.0.now ∷ slice_split (λ b. b == mark) cut.1.now) }
+    ensures shorter { IfSome result (λ cut. length cut.1.now < length text.now) }
+    ensures none { IfNone result (slice_split (λ b. b == mark) text.now ≡ text.now ∷ []) }
 {
-    line.split(|b| is_blank(*b)).collect(alloc)
+    match mark_in(mark, text) {
+        Some(end) => Some((&text[..end], &text[end + 1..])),
+        None => None,
+    }
+}
+
+/// As many pieces as a line of a transcript has words, and one more.
+const FEW_PIECES: usize = 18;
+
+/// The pieces of a text between marks.
+fn pieces_of(alloc: Global, mark: u8, text: &[u8]) -> Result<Vec<&[u8]>, NoMemory>
+    ensures { IfOk result (λ pieces. map (λ w. w.now) pieces.items ≡ slice_split (λ b. b == mark) text.now) }
+{
+    let mut pieces = Vec::with_capacity(alloc, FEW_PIECES)?;
+    let mut rest = text;
+    while let Some((piece, behind)) = first_piece(mark, rest) {
+        pieces.push(piece)?;
+        rest = behind;
+    }
+    pieces.push(rest)?;
+    Ok(pieces)
 }
 
 /// The words of a line, cut at blanks. More of them than a list has items are too many for memory.
@@ -43,13 +56,7 @@ pub fn words_of(alloc: Global, line: &[u8]) -> Result<Vec<&[u8]>, NoMemory>
     if has_many(b' ', line) {
         return Err(NoMemory);
     }
-    Ok(split_blanks(alloc, line)?)
-}
-
-fn split_commas(alloc: Global, word: &[u8]) -> Result<Vec<&[u8]>, AllocError>
-    ensures { IfOk result (λ parts. map (λ w. w.now) parts.items ≡ slice_split is_comma word.now) }
-{
-    word.split(|b| is_comma(*b)).collect(alloc)
+    pieces_of(alloc, b' ', line)
 }
 
 /// The items of a list, if they are not too many.
@@ -63,7 +70,7 @@ fn parts_of(alloc: Global, word: &[u8]) -> Result<Vec<&[u8]>, NoMemory>
     if has_many(b',', word) {
         return Err(NoMemory);
     }
-    Ok(split_commas(alloc, word)?)
+    pieces_of(alloc, b',', word)
 }
 
 /// The items of a list, each read.

@@ -1,9 +1,0 @@
-use Rattle.std.proofs.Common.{rules}
-use Rattle.std.proofs.lemmas.Iterator.Consumers.{map_from_collect}
-use Rattle.std.proofs.lemmas.Iterator.Splits.{YieldsList-from_slice_split}
-use Rattle.vale_fields.specs.Lists.{is_comma}
-use Rattle.vale_fields.proofs.lists.split_commas.Goals as goal
-
-pub returns : goal.returns
-returns c = map_from_collect _ c.collect.ensures.ran
-    (YieldsList-from_slice_split _ is_comma c.args.word.now (cc) (cc) (cc) (λ x b q k. search rules))
