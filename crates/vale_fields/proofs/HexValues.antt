@@ -2,7 +2,7 @@
 use Rattle.std.proofs.Common.{◌≡◌, ℕ, ◌<◌, ◌==◌, Bool, true, get_or, nat_lt, refl}
 use Rattle.std.proofs.lemmas.Bool.{agree_below, agree_below_at, eqb-true, ltb-true}
 use Rattle.vale_fields.specs.Fields.{hex_value}
-use Rattle.vale_fields.specs.declared.fields.TheConstants.{HEX_VALUES}
+use Rattle.vale_fields.specs.declared.hex.TheConstants.{HEX_VALUES}
 
 abbrev is-value : ℕ → Bool
 is-value b = get_or HEX_VALUES b 0 == hex_value b

@@ -2,6 +2,7 @@ pub mod Back
 pub mod Cuts
 pub mod Entries
 pub mod Numerals
+mod HexBlocks
 mod HexValues
 mod Marks
 mod Pairs

@@ -1,5 +1,5 @@
 -- Digits in pairs.
-use Rattle.std.proofs.Common.{◌≡◌, ℕ, suc, ◌+◌, ◌*◌, ◌<◌, List, [], ◌∷◌, ◌++◌, length, drop, get_or, refl, sym, ap, ◌∙◌, ◌/◌, arith, append_assoc, drop-cons, length-drop}
+use Rattle.std.proofs.Common.{◌≡◌, ℕ, zero, suc, ◌+◌, ◌*◌, ◌<◌, ◌≤◌, List, [], ◌∷◌, ◌++◌, length, take, drop, get_or, refl, sym, ap, ◌∙◌, ◌/◌, arith, append_assoc, drop-cons, length-drop}
 use Rattle.std.proofs.lemmas.List.{append-nil}
 use Rattle.vale_fields.specs.Fields.{hex_value, bytes_of}
 
@@ -24,9 +24,26 @@ few_bytes [] few = refl
 few_bytes (x ∷ []) few = refl
 few_bytes (x ∷ y ∷ ds) few = absurd (omega arith)
 
-pub pairs_end : (ds done : List ℕ) (k : ℕ) → k ≡ length ds / 2 → done ++ bytes_of (drop (2 * k) ds) ≡ bytes_of ds → done ≡ bytes_of ds
-pairs_end ds done k is all =
+pub pairs_end : (ds done all : List ℕ) (k : ℕ) → k ≡ length ds / 2 → done ++ bytes_of (drop (2 * k) ds) ≡ all → done ≡ all
+pairs_end ds done all k is e =
     let few : length (drop (2 * k) ds) < 2 = omega (arith, is, length-drop (2 * k) ds) in
-    sym (append-nil done) ∙ ap (λ (t : List ℕ). done ++ t) (sym (few_bytes (drop (2 * k) ds) few)) ∙ all
+    sym (append-nil done) ∙ ap (λ (t : List ℕ). done ++ t) (sym (few_bytes (drop (2 * k) ds) few)) ∙ e
 
 pub ruleset pairs = (pairs_more, pairs_end)
+
+-- the first digits, an even number of them, and those behind them
+pub bytes-cut : (n m : ℕ) (ds : List ℕ) → m ≡ 2 * n → m ≤ length ds → bytes_of ds ≡ bytes_of (take m ds) ++ bytes_of (drop m ds)
+bytes-cut zero m ds even within = let none : m ≡ 0 = omega (arith, even) in rw none refl
+bytes-cut (suc n) m [] even within = absurd (omega (arith, even, within))
+bytes-cut (suc n) m (x ∷ []) even within = absurd (omega (arith, even, within))
+bytes-cut (suc n) m (x ∷ y ∷ ds) even within =
+    let two : m ≡ suc (suc (2 * n)) = omega (arith, even) in
+    rw two (ap (λ (t : List ℕ). (hex_value x * 16 + hex_value y) ∷ t) (bytes-cut n (2 * n) ds refl (omega (arith, even, within))))
+
+-- the next block
+pub blocks_more : (ds done all : List ℕ) → 16 ≤ length ds → done ++ bytes_of ds ≡ all → (done ++ bytes_of (take 16 ds)) ++ bytes_of (drop 16 ds) ≡ all
+blocks_more ds done all long e =
+    append_assoc done (bytes_of (take 16 ds)) (bytes_of (drop 16 ds))
+    ∙ (ap (λ (t : List ℕ). done ++ t) (sym (bytes-cut 8 16 ds refl long)) ∙ e)
+
+pub ruleset blocks = (blocks_more)

@@ -1,7 +1,7 @@
 -- What is read fits its fields.
 use Rattle.std.specs.List.{AllByRecursion as Each, range_with_len}
-use Rattle.std.proofs.Common.{ℕ, zero, suc, ◌+◌, ◌-◌, ◌<◌, ◌≤◌, ◌&&◌, nat_le, Bool, true, false, cond, if◌then◌else◌, List, [], ◌∷◌, map, flat_map, take, drop, codes, bytes_eq, Option, Some, None, IfSome, option_map, refl, sym, subst, arith, ◌≡◌}
-use Rattle.std.proofs.lemmas.Bool.{and_parts, leb-true}
+use Rattle.std.proofs.Common.{ℕ, zero, suc, ◌+◌, ◌-◌, ◌≤◌, nat_le, Bool, true, false, if◌then◌else◌, List, [], ◌∷◌, map, flat_map, take, drop, codes, bytes_eq, Option, Some, None, IfSome, option_map, refl, sym, subst, arith, ◌≡◌}
+use Rattle.std.proofs.lemmas.Bool.{leb-true}
 use Rattle.std.proofs.lemmas.Bool.Decides.{nat_tests}
 use Rattle.nm_types.specs.declared.fault.OpenFault.TheVariants.{BadSize, SwitchesFull, PortsFull, NameTaken, NoBuffers}
 use Rattle.nm_types.specs.declared.fault.SyncFault.TheVariants.{HeadOut, CurOut, Indirect, IndexOut, NotHeld, Doubled, Unannounced, LongLen, Fragment}
@@ -11,7 +11,8 @@ use Rattle.vale_entry.specs.declared.entry.Span.{Span}
 use Rattle.vale_entry.specs.Spans.{numbers_in}
 use Rattle.vale_entry.proofs.Spans.{EndsAre}
 use Rattle.vale_entry.proofs.Each.{each-append}
-use Rattle.vale_fields.specs.Fields.{hex_value, bytes_of, is_marked, frame_of, span_by, span_of, dest_of, item_of, short_of, name_of, half_of, front_by, back_by, mark_in}
+use Rattle.vale_fields.proofs.HexBlocks.{hex-low}
+use Rattle.vale_fields.specs.Fields.{bytes_of, is_marked, frame_of, span_by, span_of, dest_of, item_of, short_of, name_of, half_of, front_by, back_by, mark_in}
 use Rattle.vale_words.specs.Fixed.{word_at}
 use Rattle.vale_fields.specs.Lists.{parts_of, numbers_of, dests_of, items_of, frames_of}
 use Rattle.vale_fields.specs.Rows.{entry_of, row_of, open_with, open_answer, watch_with, watch_answer, put_answer, fault_by, enter_row, open_row, send_row, grant_row, done_row, sync_row, get_row, reset_row, shut_row, finish_row, leave_row, put_row, watch_row, stat_row}
@@ -20,21 +21,12 @@ use Rattle.vale_entry.specs.Fits.{DestFits, FaultFits, ReplyFits}
 use Rattle.vale_fields.specs.Widths.{IsByte, AreBytes, Is32, FitsItem, FitsFields, field_widths}
 use Rattle.vale_fields.proofs.Numerals.{long-fits, short-fits, half-fits}
 
-value-low : (b : ℕ) → hex_value b < 16
-unfolding hex_value
-value-low b = by_digit (nat_le 48 b && nat_le b 57) (nat_le 97 b && nat_le b 102) refl refl
-  where
-    by_digit : (d l : Bool) → (nat_le 48 b && nat_le b 57) ≡ d → (nat_le 97 b && nat_le b 102) ≡ l → cond d (b - 48) (cond l (b - 87) 0) < 16
-    by_digit true l is letter = let high = leb-true b 57 (and_parts (nat_le 48 b) (nat_le b 57) is).1 in omega (arith, high)
-    by_digit false true is letter = let high = leb-true b 102 (and_parts (nat_le 97 b) (nat_le b 102) letter).1 in omega (arith, high)
-    by_digit false false is letter = omega arith
-
 bytes-fit : (ds : List ℕ) → Each IsByte (bytes_of ds)
 bytes-fit [] = tt
 bytes-fit (x ∷ []) = tt
 bytes-fit (x ∷ y ∷ ds) =
-    let high = value-low x in
-    let low = value-low y in
+    let high = hex-low x in
+    let low = hex-low y in
     (omega (arith, high, low), bytes-fit ds)
 
 frame-fits : (w : List ℕ) → AreBytes (frame_of w)

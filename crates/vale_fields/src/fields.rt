@@ -1,7 +1,8 @@
 //! Single fields.
 ghost use Rattle.std.specs.Prelude.{◌≡◌, ◌<◌, ◌++◌, ◌∷◌, [], ℕ, List, min, length, IsTrue, IfOk, OnOk};
-ghost use Rattle.vale_fields.specs.Fields.{long_of, short_of, half_of, hex_value, bytes_of, is_marked, frame_of, front_by, back_by, mark_in, span_of, dest_of, item_of, name_of};
+ghost use Rattle.vale_fields.specs.Fields.{long_of, short_of, half_of, bytes_of, is_marked, frame_of, front_by, back_by, mark_in, span_of, dest_of, item_of, name_of};
 
+use crate::hex::bytes_of;
 use memchr::memchr;
 use nm_types::{Batch, Frame, Name, NoMemory, PortId};
 use std::alloc::Global;
@@ -33,41 +34,6 @@ pub(crate) fn half_of(word: &[u8]) -> u16
     ensures { result ≡ half_of word.now }
 {
     long_of(word).min(u16::MAX as u64) as u16
-}
-
-/// What each byte stands for as a hexadecimal digit in lower case; 0 for a byte that is none.
-static HEX_VALUES: [u8; 256] = [
-    0, 0, 0, 0, 0, 0, 0, 0, 0, 0, 0, 0, 0, 0, 0, 0, 0, 0, 0, 0, 0, 0, 0, 0, 0, 0, 0, 0, 0, 0, 0, 0,
-    0, 0, 0, 0, 0, 0, 0, 0, 0, 0, 0, 0, 0, 0, 0, 0, 0, 1, 2, 3, 4, 5, 6, 7, 8, 9, 0, 0, 0, 0, 0, 0,
-    0, 0, 0, 0, 0, 0, 0, 0, 0, 0, 0, 0, 0, 0, 0, 0, 0, 0, 0, 0, 0, 0, 0, 0, 0, 0, 0, 0, 0, 0, 0, 0,
-    0, 10, 11, 12, 13, 14, 15, 0, 0, 0, 0, 0, 0, 0, 0, 0, 0, 0, 0, 0, 0, 0, 0, 0, 0, 0, 0, 0, 0, 0,
-    0, 0, 0, 0, 0, 0, 0, 0, 0, 0, 0, 0, 0, 0, 0, 0, 0, 0, 0, 0, 0, 0, 0, 0, 0, 0, 0, 0, 0, 0, 0, 0,
-    0, 0, 0, 0, 0, 0, 0, 0, 0, 0, 0, 0, 0, 0, 0, 0, 0, 0, 0, 0, 0, 0, 0, 0, 0, 0, 0, 0, 0, 0, 0, 0,
-    0, 0, 0, 0, 0, 0, 0, 0, 0, 0, 0, 0, 0, 0, 0, 0, 0, 0, 0, 0, 0, 0, 0, 0, 0, 0, 0, 0, 0, 0, 0, 0,
-    0, 0, 0, 0, 0, 0, 0, 0, 0, 0, 0, 0, 0, 0, 0, 0, 0, 0, 0, 0, 0, 0, 0, 0, 0, 0, 0, 0, 0, 0, 0, 0,
-    0, 0,
-];
-
-/// What a hexadecimal digit in lower case stands for; 0 for any other byte.
-#[tactic(auto, using(crate::proofs::HexValues::hex_values))]
-#[inline(always)]
-fn hex_value(b: u8) -> u8
-    ensures value { result ≡ hex_value b }
-    ensures low { result < 16 }
-{
-    HEX_VALUES[b as usize]
-}
-
-/// The bytes that hexadecimal digits write.
-#[tactic(auto, using(crate::proofs::Pairs::pairs))]
-fn bytes_of(alloc: Global, digits: &[u8]) -> Result<Vec<u8>, NoMemory>
-    ensures { IfOk result (λ bytes. bytes.items ≡ bytes_of digits.now) }
-{
-    let mut bytes = Vec::with_capacity(alloc, digits.len() / 2)?;
-    for k in 0..digits.len() / 2 {
-        bytes.push(hex_value(digits[2 * k]) * 16 + hex_value(digits[2 * k + 1]))?;
-    }
-    Ok(bytes)
 }
 
 fn is_marked(word: &[u8]) -> bool

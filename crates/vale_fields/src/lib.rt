@@ -5,6 +5,7 @@
 #![tactic(auto)]
 
 mod fields;
+mod hex;
 pub mod laws;
 mod lists;
 mod printable;
