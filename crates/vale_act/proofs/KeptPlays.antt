@@ -1,5 +1,5 @@
 -- What is kept of users' ports, from their leaving to the end of a script.
-use Rattle.std.proofs.Common.{◌≡◌, ℕ, zero, suc, ◌+◌, ◌∙◌, List, [], ◌∷◌, ◌++◌, length, take, slice_get, Some, Vec, refl, sym, ap, subst, arith, append_assoc, append-nil}
+use Rattle.std.proofs.Common.{◌≡◌, ℕ, zero, suc, ◌+◌, ◌∙◌, List, [], ◌∷◌, ◌++◌, length, take, slice_get, Option, Some, None, IfSome, Vec, refl, sym, ap, subst, arith, append_assoc, append-nil}
 use Rattle.std.specs.Prelude.{flat_map}
 use Rattle.std.specs.List.{AllByRecursion}
 use Rattle.std.specs.declared.alloc.Global.{Global}
@@ -18,32 +18,38 @@ use Rattle.vale_replay.specs.Tasks.{Captures}
 use Rattle.vale_act.specs.Outputs.{outputs_of}
 use Rattle.vale_act.specs.Plays.{PlaysScript}
 use Rattle.vale_act.specs.Units.{AreUsersFrom}
-use Rattle.vale_player.specs.Kept.{KeptFrames, AreWhole, KeepsWhole}
+use Rattle.vale_player.specs.Kept.{KeptFrames, AreOrLost, AreWhole, IsWhole, KeepsWhole, both_kept}
 use Rattle.vale_act.specs.Seats.{AllAre, IsEmpty, Meets, ScriptDone, files_in, saves_at}
 use Rattle.vale_act.specs.declared.seat.Seat.{Seat}
 use Rattle.vale_act.specs.declared.seat.Seat.TheVariants.{Away, There, Gone}
 use Rattle.vale_player.proofs.KeptPorts.{whole-stays}
+use Rattle.vale_act.proofs.KeptNotes.{both-each}
 
 -- all that was kept is all in a history that goes on
 pub whole-later : (pool : ℕ) (h k : List Entry) (kept : List KeptFrames) → IsPrefix h k → IsLegal pool k → AreWhole pool h kept → AreWhole pool k kept
 whole-later pool h k kept begins legal whole =
     subst (λ (l : List Entry). AreWhole pool l kept) begins.1 (whole-stays pool h begins.0 kept (subst (IsLegal pool) (sym begins.1) legal) whole)
 
+whole-if-later : (pool : ℕ) (h k : List Entry) (kept : Option (List KeptFrames)) → IsPrefix h k → IsLegal pool k → IfSome kept (AreWhole pool h) → IfSome kept (AreWhole pool k)
+whole-if-later pool h k None begins legal whole = tt
+whole-if-later pool h k (Some ports) begins legal whole = whole-later pool h k ports begins legal whole
+
 -- nothing is kept at first
-pub none-whole : (pool : ℕ) (h : List Entry) (kept : List KeptFrames) → kept ≡ [] → AreWhole pool h kept
-none-whole pool h kept none = subst (AreWhole pool h) (sym none) tt
+pub none-whole : (pool : ℕ) (h : List Entry) (kept : Option (List KeptFrames)) → kept ≡ Some [] → IfSome kept (AreWhole pool h)
+none-whole pool h kept none = subst (λ (k : Option (List KeptFrames)). IfSome k (AreWhole pool h)) (sym none) tt
 
 -- where nobody leaves
-pub keeps-met : (pool : ℕ) (v m : Knowing) (before met : Seat) (kept : List KeptFrames) → Meets v m before met → KeepsWhole pool v m kept kept
-keeps-met pool v m before met kept meets whole = subst (λ (l : List Entry). AreWhole pool l kept) (sym meets.seen) whole
+pub keeps-met : (pool : ℕ) (v m : Knowing) (before met : Seat) (kept : Option (List KeptFrames)) → Meets v m before met → KeepsWhole pool v m kept kept
+keeps-met pool v m before met kept meets whole = subst (λ (l : List Entry). IfSome kept (AreWhole pool l)) (sym meets.seen) whole
 
 -- where a user leaves, with what was kept of its ports
-pub keeps-left : (pool mine : ℕ) (v m w left : Knowing) (before met : Seat) (kept ports all : List KeptFrames) → Meets v m before met → mine ≡ pool
-    → Knows root_of w.seen m.seen m.mine × Knows root_of w.seen left.seen left.mine → IsLegal pool w.seen → AreWhole mine left.seen ports
-    → (AreWhole pool w.seen kept → AreWhole pool w.seen ports → AreWhole pool w.seen all) → KeepsWhole pool v w kept all
+pub keeps-left : (pool mine : ℕ) (v m w left : Knowing) (before met : Seat) (kept ports all : Option (List KeptFrames)) → Meets v m before met → mine ≡ pool
+    → Knows root_of w.seen m.seen m.mine × Knows root_of w.seen left.seen left.mine → IsLegal pool w.seen → IfSome ports (AreWhole mine left.seen)
+    → AreOrLost (both_kept kept ports) all → KeepsWhole pool v w kept all
 keeps-left pool mine v m w left before met kept ports all meets of known legal own both whole =
-    both (whole-later pool v.seen w.seen kept (subst (λ (l : List Entry). IsPrefix l w.seen) meets.seen known.0.begins) legal whole)
-    (whole-later pool left.seen w.seen ports known.1.begins legal (subst (λ (n : ℕ). AreWhole n left.seen ports) of own))
+    both-each (IsWhole pool w.seen) kept ports all both
+    (whole-if-later pool v.seen w.seen kept (subst (λ (l : List Entry). IsPrefix l w.seen) meets.seen known.0.begins) legal whole)
+    (whole-if-later pool left.seen w.seen ports known.1.begins legal (subst (λ (n : ℕ). IfSome ports (AreWhole n left.seen)) of own))
 
 -- ---- the files of all users
 

@@ -30,4 +30,5 @@ pub mod Ends
 pub mod Begins
 pub mod Plays
 pub mod ActOutputs
+pub mod KeptNotes
 pub mod KeptPlays

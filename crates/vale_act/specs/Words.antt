@@ -7,7 +7,7 @@ pub use Rattle.vale_entry.specs.declared.entry.Entry.{Entry}
 pub use Rattle.vale_fabric.specs.Fabrics.{IsPassIn, fixed_in, knowing}
 pub use Rattle.vale_player.specs.Deeds.{AreDoable, IsDoable}
 pub use Rattle.vale_player.specs.Inputs.{captures_of, names_of, records_in}
-pub use Rattle.vale_player.specs.Kept.{AreWhole, KeepsWhole, KeptFrames}
+pub use Rattle.vale_player.specs.Kept.{AreWhole, Keeps, KeepsAll, KeepsMore, KeepsWhole, KeptFrames}
 pub use Rattle.vale_replay.specs.Machine.{Machine}
 pub use Rattle.vale_replay.specs.Replay.{act_of, shares_of, user_count}
 pub use Rattle.vale_replay.specs.Saved.{acts_of_unit, saved_file, saves_of}

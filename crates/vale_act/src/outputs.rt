@@ -1,8 +1,9 @@
 //! The files that a script saves, once all its users have left.
-ghost use Rattle.std.specs.Prelude.{ℕ, List, ◌≡◌, ◌==◌, ◌++◌, [], ◌∷◌, find, map, flat_map, OnOk, IfOk};
+ghost use Rattle.std.specs.Prelude.{ℕ, List, ◌≡◌, ◌==◌, ◌++◌, [], ◌∷◌, find, map, flat_map, Some, OnOk, IfOk};
 ghost use Rattle.std.specs.List.{AllByRecursion};
 ghost use Rattle.std.specs.Option.{option_copied};
-ghost use Rattle.vale_act.specs.Words.{AreWhole, Entry, IsShortRecord, IsWritable, KeptFrames};
+ghost use Rattle.vale_act.specs.Words.{AreWhole, Entry, IsShortRecord, IsWritable, Keeps, KeepsAll};
+ghost use Rattle.vale_act.specs.Words.{KeptFrames};
 ghost use Rattle.vale_act.specs.Words.{Machine, act_of, acts_of_unit, saved_file, saves_of};
 ghost use Rattle.vale_act.specs.Outputs.{output_of, outputs_of};
 ghost use Rattle.vale_act.specs.SavedActs.{note_of, Adds, name_of_save, names_of_acts, names_saved};
@@ -30,17 +31,12 @@ fn kept_of<'a>(kept: &'a [KeptPort], port: PortId) -> Option<&'a KeptPort>
     kept.iter().find(|one| one.port.0 == port.0)
 }
 
-/// A copy of a record, which can be written.
+/// A copy of a record.
 fn copy_record(alloc: Global, one: &Record) -> Result<Record, NoMemory>
-    ensures made { IfOk result (λ made. made ≡ one.now) }
-    ensures short { IfOk result IsShortRecord }
+    ensures { IfOk result (λ made. made ≡ one.now) }
 {
-    let captured = one.bytes.as_slice();
-    if captured.len() > 262_144 {
-        return Err(NoMemory);
-    }
     let mut bytes = Vec::new(alloc);
-    bytes.extend_from_slice(captured)?;
+    bytes.extend_from_slice(one.bytes.as_slice())?;
     Ok(Record {
         seconds: one.seconds,
         fraction: one.fraction,
@@ -49,10 +45,9 @@ fn copy_record(alloc: Global, one: &Record) -> Result<Record, NoMemory>
     })
 }
 
-/// A copy of records, each of which can be written.
+/// A copy of records.
 fn copy_records(alloc: Global, records: &[Record]) -> Result<Vec<Record>, NoMemory>
-    ensures made { IfOk result (λ made. made.items ≡ records.now) }
-    ensures short { IfOk result (λ made. AllByRecursion IsShortRecord made.items) }
+    ensures { IfOk result (λ made. made.items ≡ records.now) }
 {
     let mut copies = Vec::new(alloc);
     for one in records {
@@ -61,8 +56,9 @@ fn copy_records(alloc: Global, records: &[Record]) -> Result<Vec<Record>, NoMemo
     Ok(copies)
 }
 
-/// A file with these records.
+/// A file with these records, each of which can be written.
 fn file_with(alloc: Global, file: &ScriptWord, records: &[Record]) -> Result<Saved, NoMemory>
+    requires { AllByRecursion IsShortRecord records.now }
     ensures made { IfOk result (λ made. made
         ≡ record { file = file.now; records = records.now }) }
     ensures writable { IfOk result IsWritable }
@@ -72,8 +68,9 @@ fn file_with(alloc: Global, file: &ScriptWord, records: &[Record]) -> Result<Sav
     Ok(Saved { name, records })
 }
 
-/// The file of a note, with all frames that its port gave.
+/// The file of a note, with all frames that its port gave, which is among those that are kept.
 fn output_of(alloc: Global, save: &SaveFile, kept: &[KeptPort]) -> Result<Saved, NoMemory>
+    requires { Keeps (Some kept.now) save.now.port.0 }
     ensures made { IfOk result (λ made. (pool : ℕ) (history : List Entry)
         → AreWhole pool history kept.now
         → made ≡ output_of (saved_file pool history save.now)) }
@@ -81,7 +78,7 @@ fn output_of(alloc: Global, save: &SaveFile, kept: &[KeptPort]) -> Result<Saved,
 {
     match kept_of(kept, save.port) {
         Some(one) => file_with(alloc, &save.file, one.records.as_slice()),
-        None => Err(NoMemory),
+        None => unreachable!(),
     }
 }
 
@@ -98,6 +95,7 @@ struct Notes<'k> {
 impl<'k> Notes<'k> {
     /// Puts the file that a line saves behind others, if its port was open.
     fn add_act(&self, act: &Act, outputs: &mut Vec<Saved>) -> Result<(), NoMemory>
+        requires { KeepsAll (Some self.now.kept.now) self.now.saves.now }
         ensures { Adds self.now (act.now ∷ []) outputs.old.items outputs.new.items result }
     {
         let Act::Save { name: _, file } = act else {
@@ -112,6 +110,7 @@ impl<'k> Notes<'k> {
 
     /// Puts the files that these lines save behind others.
     fn add_lines(&self, lines: &[Line], outputs: &mut Vec<Saved>) -> Result<(), NoMemory>
+        requires { KeepsAll (Some self.now.kept.now) self.now.saves.now }
         ensures { Adds self.now (map act_of lines.now) outputs.old.items outputs.new.items result }
     {
         for line in lines {
@@ -122,6 +121,7 @@ impl<'k> Notes<'k> {
 
     /// Puts the files that a unit's lines save behind others.
     fn add_unit(&self, unit: &Unit, outputs: &mut Vec<Saved>) -> Result<(), NoMemory>
+        requires { KeepsAll (Some self.now.kept.now) self.now.saves.now }
         ensures { Adds self.now (acts_of_unit unit.now) outputs.old.items outputs.new.items result }
     {
         match unit {
@@ -132,6 +132,7 @@ impl<'k> Notes<'k> {
 
     /// Puts the files that these units save behind others.
     fn add_units(&self, units: &[Unit], outputs: &mut Vec<Saved>) -> Result<(), NoMemory>
+        requires { KeepsAll (Some self.now.kept.now) self.now.saves.now }
         ensures { Adds self.now (flat_map acts_of_unit units.now) outputs.old.items
             outputs.new.items result }
     {
@@ -143,13 +144,15 @@ impl<'k> Notes<'k> {
 }
 
 /// The files that a script saves, in the order of its `save` lines. `saves` are the notes of its
-/// users, in the order of their numbers, and `kept` is what was kept of their ports.
+/// users, in the order of their numbers, and `kept` is what was kept of their ports; the ports of all
+/// notes are among these.
 pub fn outputs<'k>(
     alloc: Global,
     script: &Script,
     saves: &'k [SaveFile],
     kept: &'k [KeptPort],
 ) -> Result<Outputs, NoMemory>
+    requires { KeepsAll (Some kept.now) saves.now }
     ensures made { IfOk result (λ made. (history : List Entry) (users : List Machine)
         → saves_of users ≡ saves.now → AreWhole script.now.pool history kept.now
         → made ≡ outputs_of script.now history users) }

@@ -1,5 +1,5 @@
 //! A whole script over a fabric.
-ghost use Rattle.std.specs.Prelude.{◌≡◌, ◌≤◌, ◌++◌, [], List, length, map, flat_map, OnOk, IfOk, IfErr};
+ghost use Rattle.std.specs.Prelude.{◌≡◌, ◌≤◌, ◌++◌, [], List, length, map, flat_map, Some, IfSome, OnOk, IfOk, IfErr};
 ghost use Rattle.std.specs.List.{AllByRecursion};
 ghost use Rattle.std.specs.Vec.{vec_capacity};
 ghost use Rattle.vale_act.specs.Leaving.{AllHaveLeft, CanAllLeave, CanStillLeave};
@@ -7,7 +7,7 @@ ghost use Rattle.vale_act.specs.Outputs.{outputs_of};
 ghost use Rattle.vale_act.specs.Plays.{HasWhole, PlaysScript, IsStoppedBy};
 ghost use Rattle.vale_act.specs.Seats.{AreOnFabric, AreSeated, IsAtStart, IsRunnable, UnitAt, AllAre, AreSaves, IsEmpty, ScriptDone, files_in, saves_at, AreBetween, AreNew, AreStopped, IsScriptStopped, ScriptPlayed};
 ghost use Rattle.vale_act.specs.Units.{knows_at};
-ghost use Rattle.vale_act.specs.Words.{AreWhole, Entry, IsPassIn, IsSound, IsWhole, IsWritable, Machine};
+ghost use Rattle.vale_act.specs.Words.{AreWhole, Entry, IsPassIn, IsSound, IsWhole, IsWritable, KeepsAll, Machine};
 ghost use Rattle.vale_act.specs.Words.{captures_of, fixed_in, frames_of, knowing, name_of, names_of};
 ghost use Rattle.vale_act.specs.Words.{numbered, records_in, saves_of, shares_of};
 
@@ -23,7 +23,7 @@ use std::sync::Wait;
 use std::thread::Threads;
 use vale_captures::{Inputs, Outputs};
 use vale_fabric::{Fabric, Pass};
-use vale_player::{KeptPort, SaveFile};
+use vale_player::{KeptPort, SaveFile, SavedPorts};
 use vale_script::{Script, Unit};
 
 impl<'f, R: Threads + Wait + Sync, G: Gate> Scene<'f, R, G> {
@@ -73,7 +73,7 @@ impl<'f, R: Threads + Wait + Sync, G: Gate> Scene<'f, R, G> {
         &self,
         main: &mut Pass,
         seats: &mut [Seat<'f>],
-        kept: &mut Vec<KeptPort>,
+        kept: &mut SavedPorts,
         script: &Script,
     ) -> Ended
         requires on { AreOnFabric self.now.fabric.now main.old seats.old }
@@ -83,8 +83,9 @@ impl<'f, R: Threads + Wait + Sync, G: Gate> Scene<'f, R, G> {
         ensures gone { flat_map knows_at seats.new ≡ [] }
         ensures whole { IsWhole (knowing main.new).part }
         ensures mine { (knowing main.new).mine ≡ numbered 1 (knowing main.new).seen }
-        ensures kept { kept.old.items ≡ [] → AreWhole (fixed_in self.now.fabric.now).pool
-            (knowing main.new).seen kept.new.items }
+        ensures kept { kept.old ≡ Some [] → IfSome kept.new
+            (AreWhole (fixed_in self.now.fabric.now).pool (knowing main.new).seen) }
+        ensures saves { AllAre (λ place seat. KeepsAll kept.new (saves_at seat)) seats.new }
         ensures plays { OnOk result (ScriptPlayed script.now (captures_of self.now.inputs.now)
             (knowing main.new) seats.new) }
         ensures stops { IfErr result (IsScriptStopped (fixed_in self.now.fabric.now) script.now
@@ -159,7 +160,7 @@ impl<'f, R: Threads + Wait + Sync, G: Gate> Scene<'f, R, G> {
         &self,
         pass: Pass,
         script: &Script,
-    ) -> (Pass, Result<(Vec<Vec<SaveFile>>, Vec<KeptPort>), StepFault>)
+    ) -> (Pass, Result<(Vec<Vec<SaveFile>>, SavedPorts), StepFault>)
         requires pass { IsPassIn self.now.fabric.now pass }
         requires whole { IsWhole (knowing pass).part }
         requires seen { (knowing pass).seen ≡ [] }
@@ -172,8 +173,10 @@ impl<'f, R: Threads + Wait + Sync, G: Gate> Scene<'f, R, G> {
         ensures mine { (knowing result.0).mine ≡ numbered 1 (knowing result.0).seen }
         ensures plays { IfOk result.1 (λ left. ScriptDone script.now
             (captures_of self.now.inputs.now) (knowing result.0) left.0.items) }
-        ensures kept { IfOk result.1 (λ left. AreWhole (fixed_in self.now.fabric.now).pool
-            (knowing result.0).seen left.1.items) }
+        ensures kept { IfOk result.1 (λ left. IfSome left.1
+            (AreWhole (fixed_in self.now.fabric.now).pool (knowing result.0).seen)) }
+        ensures saves { IfOk result.1 (λ left.
+            KeepsAll left.1 (flat_map files_in left.0.items)) }
         ensures stops { IfErr result.1 (IsScriptStopped (fixed_in self.now.fabric.now) script.now
             (captures_of self.now.inputs.now) (knowing result.0).seen) }
         ensures empty { AllHaveLeft script.now.pool (knowing result.0).seen }
@@ -186,7 +189,7 @@ impl<'f, R: Threads + Wait + Sync, G: Gate> Scene<'f, R, G> {
         let Ok(mut seats) = new_seats(self.alloc, count) else {
             return (main, Err(StepFault::NoMemory));
         };
-        let mut kept = Vec::new(self.alloc);
+        let mut kept = SavedPorts::new(self.alloc);
         let done = self.run_script(&mut main, &mut seats, &mut kept, script);
         let saved = take_all_saves(self.alloc, &mut seats, saves);
         end_all(seats);
@@ -214,6 +217,7 @@ fn gathered_outputs(
     lists: &mut [Vec<SaveFile>],
     kept: &[KeptPort],
 ) -> Result<Outputs, NoMemory>
+    requires { KeepsAll (Some kept.now) (flat_map files_in lists.old) }
     ensures made { IfOk result (λ made. (history : List Entry) (users : List Machine)
         → saves_of users ≡ flat_map files_in lists.old
         → AreWhole script.now.pool history kept.now
@@ -267,6 +271,9 @@ pub fn play<'f, R: Threads + Wait + Sync, G: Gate>(
     let (mut lists, kept) = match done {
         Ok(left) => left,
         Err(fault) => return (main, Err(fault)),
+    };
+    let Some(kept) = kept.into_ports() else {
+        return (main, Err(StepFault::NoMemory));
     };
     match gathered_outputs(alloc, script, &mut lists, &kept) {
         Ok(files) => (main, Ok(files)),

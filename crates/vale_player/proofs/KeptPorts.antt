@@ -1,6 +1,6 @@
 -- What is kept of a session's ports, call by call.
-use Rattle.std.proofs.Common.{ℕ, suc, ◌+◌, ◌-◌, ◌<◌, ◌≤◌, ◌≡◌, ◌==◌, Bool, true, false, cond, List, [], ◌∷◌, ◌++◌, map, length, Option, Some, None, IsSome, option_map, Result, Ok, Err, IfOk, IfErr, refl, sym, ◌∙◌, ap, subst, arith, le_refl, append_assoc, append-nil}
-use Rattle.std.specs.Prelude.{OnOk, option_and_then}
+use Rattle.std.proofs.Common.{ℕ, suc, ◌+◌, ◌-◌, ◌<◌, ◌≤◌, ◌≡◌, ◌==◌, Bool, true, false, cond, List, [], ◌∷◌, ◌++◌, map, length, Option, Some, None, IfSome, Result, Ok, Err, IfOk, IfErr, refl, sym, ◌∙◌, ap, subst, arith, le_refl, append_assoc, append-nil}
+use Rattle.std.specs.Prelude.{OnOk}
 use Rattle.std.proofs.lemmas.Bool.{eqb-true, eq-eqb}
 use Rattle.std.proofs.lemmas.List.{map-append}
 use mathlib.Core.List.{IsPrefix}
@@ -16,8 +16,7 @@ use Rattle.nm_types.specs.declared.fault.SyncFault.TheVariants as faults
 use Rattle.nm_types.specs.declared.id.Counts.{Counts}
 use Rattle.nm_types.specs.declared.id.PortId.{PortId}
 use Rattle.nm_types.specs.declared.id.Sides.{Sides}
-use Rattle.nm_types.specs.declared.id.Side.TheVariants.{Rx}
-use Rattle.nm_types.specs.OwnPorts.{OwnRing, OwnPort, OwnState, port_with_id, ring_on, ring_at}
+use Rattle.nm_types.specs.OwnPorts.{OwnState}
 use Rattle.pcap_io.specs.declared.record.Record.{Record}
 use Rattle.vale_entry.specs.declared.entry.Ask.{Ask}
 use Rattle.vale_entry.specs.declared.entry.Ask.TheVariants.{Watch, Stat}
@@ -47,6 +46,7 @@ use Rattle.nm_user.proofs.Later.{goes-on}
 use Rattle.nm_user.proofs.Opened.{opening}
 use Rattle.nm_user.proofs.SavingReads.{ports-stay-own, ports-are-own}
 use Rattle.nm_user.proofs.SavingHistory.{told-stays}
+use Rattle.vale_replay.specs.Machine.{Save}
 use Rattle.vale_replay.specs.Saved.{saved_in, saved_frames}
 use Rattle.vale_player.specs.declared.frames.SyncEnd.{SyncEnd}
 use Rattle.vale_player.specs.declared.frames.SyncEnd.TheVariants as ends
@@ -188,8 +188,12 @@ kept-stay s t (k ∷ kept) none all =
     let stays = none k.id all.0.port in
     (record { port = stays.port; records = all.0.records ∙ ap (map record_of) (sym stays.saved) }, kept-stay s t kept none all.1)
 
-pub keeping : (s t : SessionState) (kept : List KeptFrames) → IsThere None t → SaveNothing s t → IsKeeping s kept → IsKeeping t kept
-keeping s t kept there none all = record { there = there; all = kept-stay s t kept none all.all }
+kept-if-stay : (s t : SessionState) (kept : Option (List KeptFrames)) → SaveNothing s t → IfSome kept (AreKept s) → IfSome kept (AreKept t)
+kept-if-stay s t None none all = tt
+kept-if-stay s t (Some ports) none all = kept-stay s t ports none all
+
+pub keeping : {saves : List Save} (s t : SessionState) (kept : Option (List KeptFrames)) → IsThere None t → SaveNothing s t → IsKeeping s saves kept → IsKeeping t saves kept
+keeping {saves} s t kept there none all = record { there = there; all = kept-if-stay s t kept none all.all; noted = all.noted }
 
 -- ---- a receive sync
 
@@ -238,17 +242,8 @@ module _ (s t : SessionState) (at : ℕ) (received : Received) (there : IsThere 
   grown-kept [] all = tt
   grown-kept (k ∷ kept) all = (grown-one k all.0, grown-kept kept all.1)
 
--- what it has brought is kept, or nothing is kept any more
-pub taken-kept : (s t : SessionState) (at : ℕ) (received : Received) (old new : List KeptFrames) → IsThere None t → new ≡ map (grown_if t.own at received) old
-    → IsThere None s → IsReceived s t at received → AreKept s old → AreKept t new
-taken-kept s t at received old new after made there is kept =
-    subst (AreKept t) (sym made) (grown-kept s t at received there after is old kept)
-
 pub untaken-kept : (s t : SessionState) (at : ℕ) (kept : List KeptFrames) → IsThere None s → ReceivesNothing s t at → AreKept s kept → AreKept t kept
 untaken-kept s t at kept there r all = kept-stay s t kept (untaken-saves s t at there r) all
-
-pub none-kept : (t : SessionState) (new : List KeptFrames) → new ≡ [] → AreKept t new
-none-kept t new made = subst (AreKept t) (sym made) tt
 
 -- ---- an opening
 
@@ -258,13 +253,6 @@ begins-kept t id there has last = record {
   port = ports-are-own t id there has;
   records = ap (map record_of) (sym (saved-begin t.fixed.pool t.knows.seen id (subst (λ (n : ℕ). length t.knows.seen ≤ n) (sym last) (le_refl (length t.knows.seen)))));
 }
-
-pub has-port : {R : Type 0} (own : OwnState) (id : ℕ) (f : OwnRing → R) (copied : Option R) → IsSome copied → copied ≡ option_map f (ring_at Rx own id) → HasPort own id
-has-port {R} own id f copied some e = by (port_with_id own id) refl
-  where
-    by : (found : Option OwnPort) → port_with_id own id ≡ found → HasPort own id
-    by None is = absurd (let none : copied ≡ None = e ∙ ap (λ (x : Option OwnPort). option_map f (option_and_then (ring_on Rx) x)) is in let bad : IsSome (let gone : Option R = None in gone) = subst IsSome none some in cc)
-    by (Some p) is = record { port = p; found = is }
 
 pub kept-then : (t : SessionState) (kept : List KeptFrames) (k : KeptFrames) → AreKept t kept → IsKept t k → AreKept t (kept ++ k ∷ [])
 kept-then t [] k all one = (one, tt)
@@ -281,6 +269,10 @@ left-whole s w (k ∷ kept) there left all = (
   },
   left-whole s w kept there left all.1,
 )
+
+pub left-if-whole : (s : SessionState) (w : Knowing) (kept : Option (List KeptFrames)) → IsThere None s → IsLeft s w → IfSome kept (AreKept s) → IfSome kept (AreWhole s.fixed.pool w.seen)
+left-if-whole s w None there left all = tt
+left-if-whole s w (Some ports) there left all = left-whole s w ports there left all
 
 -- and stays so in every longer history
 pub whole-stays : KeptStaysWhole
@@ -320,14 +312,14 @@ all-records own id entry count place done all past before =
 
 -- ---- on the session's own side, and of its pass
 
-pub edited-keeping : (s t : SessionState) (own : OwnState) (kept : List KeptFrames) → t ≡ record s { own = own } → IsThere None t → IsKeeping s kept → IsKeeping t kept
-edited-keeping s t own kept made there all = keeping s t kept there (λ id k. subst (λ (x : SessionState). SavesNot s x id) (sym made) (record { port = k; saved = refl })) all
+pub edited-keeping : {saves : List Save} (s t : SessionState) (own : OwnState) (kept : Option (List KeptFrames)) → t ≡ record s { own = own } → IsThere None t → IsKeeping s saves kept → IsKeeping t saves kept
+edited-keeping {saves} s t own kept made there all = keeping s t kept there (λ id k. subst (λ (x : SessionState). SavesNot s x id) (sym made) (record { port = k; saved = refl })) all
 
-pub forked-keeping : (s t : SessionState) (kept : List KeptFrames) → t ≡ record s { knows = kept_view s.knows } → IsThere None t → IsKeeping s kept → IsKeeping t kept
-forked-keeping s t kept made there all = keeping s t kept there (λ id k. subst (λ (x : SessionState). SavesNot s x id) (sym made) (record { port = k; saved = refl })) all
+pub forked-keeping : {saves : List Save} (s t : SessionState) (kept : Option (List KeptFrames)) → t ≡ record s { knows = kept_view s.knows } → IsThere None t → IsKeeping s saves kept → IsKeeping t saves kept
+forked-keeping {saves} s t kept made there all = keeping s t kept there (λ id k. subst (λ (x : SessionState). SavesNot s x id) (sym made) (record { port = k; saved = refl })) all
 
-pub met-keeping : (s t : SessionState) (w : Knowing) (kept : List KeptFrames) → t ≡ record s { knows = w } → Knows root_of t.knows.seen s.knows.seen s.knows.mine → IsThere None t → IsKeeping s kept → IsKeeping t kept
-met-keeping s t w kept made known there all =
+pub met-keeping : {saves : List Save} (s t : SessionState) (w : Knowing) (kept : Option (List KeptFrames)) → t ≡ record s { knows = w } → Knows root_of t.knows.seen s.knows.seen s.knows.mine → IsThere None t → IsKeeping s saves kept → IsKeeping t saves kept
+met-keeping {saves} s t w kept made known there all =
     keeping s t kept there (subst (λ (x : SessionState). SaveNothing s x) (sym made)
     (joined-saves s w all.there (subst (λ (x : SessionState). Knows root_of x.knows.seen s.knows.seen s.knows.mine) made known) (subst (λ (x : SessionState). IsLegal x.fixed.pool x.knows.seen) made there.legal))) all
 

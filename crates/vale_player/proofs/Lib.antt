@@ -33,3 +33,4 @@ pub mod SavingLeaving
 pub mod SavingSyncs
 pub mod LinesRun
 pub mod KeptPorts
+pub mod KeptSaves

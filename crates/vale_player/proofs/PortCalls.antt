@@ -17,7 +17,6 @@ use Rattle.nm_types.specs.Names.{is_monitor_name}
 use Rattle.nm_types.specs.OwnPorts.{OwnPort, OwnState, port_with_name, port_with_id}
 use Rattle.vale_entry.specs.declared.entry.Ask.{Ask}
 use Rattle.vale_entry.specs.declared.entry.Ask.TheVariants.{Watch, Stat}
-use Rattle.vale_entry.specs.declared.entry.Reply.{Reply}
 use Rattle.vale_entry.specs.declared.entry.Reply.TheVariants as replies
 use Rattle.vale_entry.proofs.ListLaws.{place-of}
 use Rattle.vale_own.specs.Side.{IsSound}

@@ -1,8 +1,11 @@
 -- The frames that are kept of a session's ports while it plays.
-use Rattle.std.specs.Prelude.{ℕ, ◌≡◌, ◌++◌, ◌==◌, if◌then◌else◌, List, length, map, Option, Some, None, Result, Ok, Err}
-use Rattle.std.specs.List.{AllByRecursion}
+use Rattle.std.specs.Prelude.{ℕ, ◌≡◌, ◌++◌, ◌==◌, if◌then◌else◌, List, [], ◌∷◌, length, map, find, bytes_eq, Option, Some, None, IsSome, IfSome, option_map, Result, Ok, Err, Vec}
+use Rattle.std.specs.List.{AllByRecursion, list_any}
+use Rattle.std.specs.declared.alloc.Global.{Global}
+use Rattle.nm_types.specs.declared.fault.OpenFault.{OpenFault}
 use Rattle.nm_types.specs.declared.fault.StepFault.{StepFault}
 use Rattle.nm_types.specs.declared.fault.SyncFault.{SyncFault}
+use Rattle.nm_types.specs.declared.id.PortId.{PortId}
 use Rattle.nm_types.specs.OwnPorts.{OwnState}
 use Rattle.pcap_io.specs.declared.record.Record.{Record}
 use Rattle.vale_entry.specs.declared.entry.Entry.{Entry}
@@ -13,6 +16,7 @@ use Rattle.nm_user.specs.Sessions.{SessionState, IsThere}
 use Rattle.nm_user.specs.PortReads.{IsPortOf}
 use Rattle.nm_user.specs.Receives.{IsReceived, ReceivesNot}
 use Rattle.nm_user.specs.Saving.{frames_before_tail}
+use Rattle.vale_replay.specs.Machine.{Save}
 use Rattle.vale_replay.specs.Saved.{SavedFrame, saved_frames}
 use Rattle.vale_player.specs.declared.frames.SyncEnd.{SyncEnd}
 use Rattle.vale_player.specs.Syncing.{EndsRx, sync_end_of}
@@ -36,10 +40,39 @@ pub record IsKept (s : SessionState) (k : KeptFrames) : Type 0 where
 abbrev pub AreKept : SessionState → List KeptFrames → Type 0
 AreKept s kept = AllByRecursion (IsKept s) kept
 
--- between two calls the session is there, and so is what is kept
-pub record IsKeeping (s : SessionState) (kept : List KeptFrames) : Type 0 where
+-- The ports that are kept, or none any more since memory was wanting.
+
+abbrev pub ports_in : Option (Vec KeptFrames Global) → Option (List KeptFrames)
+ports_in ports = option_map (λ (kept : Vec KeptFrames Global). kept.items) ports
+
+-- the port of an id is kept
+abbrev pub Keeps : Option (List KeptFrames) → ℕ → Type 0
+Keeps None id = Unit {0}
+Keeps (Some kept) id = IsSome (find (λ (one : KeptFrames). one.id == id) kept)
+
+-- and so is the port of each note of a file
+abbrev pub KeepsAll : Option (List KeptFrames) → List Save → Type 0
+KeepsAll kept saves = AllByRecursion (λ (save : Save). Keeps kept save.port.0) saves
+
+-- what was kept is kept still
+abbrev pub KeepsMore : Option (List KeptFrames) → Option (List KeptFrames) → Type 0
+KeepsMore before after = (id : ℕ) → Keeps before id → Keeps after id
+
+-- just these are kept, unless memory was wanting
+abbrev pub AreOrLost : Option (List KeptFrames) → Option (List KeptFrames) → Type 0
+AreOrLost kept now = IfSome now (λ ports. kept ≡ Some ports)
+
+-- the ports that two have kept, unless memory was wanting for one of them
+abbrev pub both_kept : Option (List KeptFrames) → Option (List KeptFrames) → Option (List KeptFrames)
+both_kept (Some kept) (Some more) = Some (kept ++ more)
+both_kept _ _ = None
+
+-- Between two calls the session is there, and so is what is kept, with the ports of all files that are
+-- noted.
+pub record IsKeeping (s : SessionState) (saves : List Save) (kept : Option (List KeptFrames)) : Type 0 where
   pub there : IsThere None s
-  pub all : AreKept s kept
+  pub all : IfSome kept (AreKept s)
+  pub noted : KeepsAll kept saves
 
 -- the port of an id is the session's still, and no more is saved of it
 pub record SavesNot (s t : SessionState) (id : ℕ) : Type 0 where
@@ -84,6 +117,16 @@ new_records own id received = map record_of (saved_bytes received.entry 0 (frame
 abbrev pub grown_if : OwnState → ℕ → Received → KeptFrames → KeptFrames
 grown_if own id received k = if k.id == id then (record k { records = k.records ++ new_records own id received }) else k
 
+-- so it is with all ports that are kept; a sync that brought nothing changes none
+abbrev pub kept_received : OwnState → ℕ → Option Received → List KeptFrames → List KeptFrames
+kept_received own id None kept = kept
+kept_received own id (Some received) kept = map (grown_if own id received) kept
+
+-- a port that was opened is kept from then on, if its name is among those whose frames are kept
+abbrev pub kept_opened : List (List ℕ) → List ℕ → Result PortId OpenFault → List KeptFrames → List KeptFrames
+kept_opened names name (Ok port) kept = if list_any (λ (one : List ℕ). bytes_eq one name) names then kept ++ record { id = port.0; records = [] } ∷ [] else kept
+kept_opened names name (Err fault) kept = kept
+
 -- what is kept of a port that is gone is all that it has given
 pub record IsWhole (pool : ℕ) (history : List Entry) (k : KeptFrames) : Type 0 where
   pub gone : HasGone pool history k.id
@@ -98,5 +141,5 @@ KeptStaysWhole =
     (pool : ℕ) (past more : List Entry) (kept : List KeptFrames) → IsLegal pool (past ++ more) → AreWhole pool past kept → AreWhole pool (past ++ more) kept
 
 -- A pass goes on, and what is kept stays all that its ports gave.
-abbrev pub KeepsWhole : ℕ → Knowing → Knowing → List KeptFrames → List KeptFrames → Type 0
-KeepsWhole pool v w befores afters = AreWhole pool v.seen befores → AreWhole pool w.seen afters
+abbrev pub KeepsWhole : ℕ → Knowing → Knowing → Option (List KeptFrames) → Option (List KeptFrames) → Type 0
+KeepsWhole pool v w befores afters = IfSome befores (AreWhole pool v.seen) → IfSome afters (AreWhole pool w.seen)

@@ -118,6 +118,7 @@ impl<'f> Player<'f> {
         };
         let file = file.clone()?;
         self.saves.reserve(1)?;
+        self.kept.want(port);
         self.saves.push_reserved(SaveFile { file, port });
         Ok(())
     }

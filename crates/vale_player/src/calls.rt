@@ -6,7 +6,6 @@ ghost use Rattle.vale_player.specs.Words.{is_monitor_name};
 ghost use Rattle.vale_player.specs.Players.{HasCalled};
 ghost use Rattle.vale_player.specs.Stopping.{open_stop_of, watch_stop_of};
 
-use crate::kept::keep_opened;
 use crate::player::Player;
 use nm_types::{Name, OpenFault, Sides, StepFault, WatchFault};
 use std::sync::Wait;
@@ -52,7 +51,7 @@ impl<'f> Player<'f> {
         ensures { HasCalled self.old self.new (OpenPort name.now tx rx extra) result }
     {
         let opened = self.session.open(rt, name, tx, rx, extra);
-        keep_opened(&self.session, self.names, name, &opened, &mut self.kept);
+        self.kept.open(self.names, name, &opened);
         match opened {
             Ok(_) => Ok(()),
             Err(fault) => unless_refused(fault),

@@ -1,13 +1,13 @@
 //! How a user comes, closes its ports and leaves, and how its pass is cut in two and made one again.
-ghost use Rattle.std.specs.Prelude.{◌≡◌, [], ◌∷◌, IfOk, IfErr, None};
+ghost use Rattle.std.specs.Prelude.{◌≡◌, [], ◌∷◌, IfOk, IfErr, IfSome, None};
 ghost use Rattle.vale_player.specs.Words.{FinishPort, IsLeft, IsPassIn, IsRefused, IsThere, Knows};
 ghost use Rattle.vale_player.specs.Words.{ShutPort, fixed_in, forked_view, joined_view, kept_view};
 ghost use Rattle.vale_player.specs.Words.{knowing, root_of};
 ghost use Rattle.vale_entry.specs.declared.entry.Ask.TheVariants as asks;
-ghost use Rattle.vale_player.specs.Kept.{AreWhole};
+ghost use Rattle.vale_player.specs.Kept.{AreWhole, KeepsAll};
 ghost use Rattle.vale_player.specs.Players.{Does, HasEntered, IsStill};
 
-use crate::kept::KeptPort;
+use crate::kept::SavedPorts;
 use crate::player::{Player, SaveFile};
 use nm_types::{Name, StepFault};
 use nm_user::Session;
@@ -57,7 +57,7 @@ impl<'f> Player<'f> {
                 session,
                 saves: Vec::new(alloc),
                 names,
-                kept: Vec::new(alloc),
+                kept: SavedPorts::new(alloc),
                 frame: Vec::new(alloc),
             }),
             Err(refused) => Err(refused),
@@ -86,13 +86,14 @@ impl<'f> Player<'f> {
         (left.0, left.1)
     }
 
-    /// The same, with all frames of the ports that were kept.
-    pub fn leave_keeping<R: Wait>(self, rt: &R) -> (Pass, Vec<SaveFile>, Vec<KeptPort>)
+    /// The same, with all frames of the ports that were kept, those of the files among them.
+    pub fn leave_keeping<R: Wait>(self, rt: &R) -> (Pass, Vec<SaveFile>, SavedPorts)
         ensures pass { IsPassIn self.entry.session.fabric result.0 }
         ensures left { IsLeft self.entry.session (knowing result.0) }
         ensures saves { result.1.items ≡ self.entry.saves }
-        ensures whole { AreWhole self.entry.session.fixed.pool (knowing result.0).seen
-            result.2.items }
+        ensures whole { IfSome result.2
+            (AreWhole self.entry.session.fixed.pool (knowing result.0).seen) }
+        ensures kept { KeepsAll result.2 result.1.items }
         ensures there { IsThere None self.entry.session }
     {
         let Player {

@@ -13,7 +13,6 @@ ghost use Rattle.vale_player.specs.Kept.{SavesBy, CameRx, sync_stop_of};
 ghost use Rattle.vale_player.specs.Syncing.{has_passed, leaves_room, with_put, NeedsNoneOrEnds};
 ghost use Rattle.vale_player.specs.Syncing.{playing, HasSent, PlaysOn};
 
-use crate::kept::keep_received;
 use crate::player::Player;
 use nm_io::Gate;
 use nm_types::{Mac, Name, NoMemory, PortId, Side, StepFault, SyncFault};
@@ -247,7 +246,7 @@ impl<'f> Player<'f> {
             return Ok(());
         };
         let ended = receive(&mut self.session, rt, port, gate);
-        keep_received(&self.session, port, ended.0, &mut self.kept);
+        self.kept.receive(&self.session, port, ended.0);
         ended.1
     }
 

@@ -1,10 +1,14 @@
 //! The frames that are kept of a user's ports, for the files into which they go.
-ghost use Rattle.std.specs.Prelude.{◌≡◌, ◌<◌, ◌^◌, ◌++◌, [], ◌∷◌, map, length, None};
-ghost use Rattle.std.specs.Prelude.{OnOk, OnErr, IfOk};
-ghost use Rattle.vale_player.specs.Words.{IsThere, SessionState, bytes_or_none, frame_before_tail};
-ghost use Rattle.vale_player.specs.Kept.{AreKept, SavesBy, record_at, new_records, grown_if};
+ghost use Rattle.std.specs.Prelude.{ℕ, List, ◌≡◌, ◌<◌, ◌^◌, ◌++◌, ◌==◌, [], ◌∷◌, find, map, option_map, length};
+ghost use Rattle.std.specs.Prelude.{Some, true, OnOk, IfOk, bytes_eq};
+ghost use Rattle.std.specs.List.{AllByRecursion, list_any};
+ghost use Rattle.std.specs.Option.{option_copied};
+ghost use Rattle.vale_captures.specs.Outputs.{IsShortRecord};
+ghost use Rattle.vale_player.specs.Words.{bytes_or_none, frame_before_tail};
+ghost use Rattle.vale_player.specs.Kept.{AreOrLost, Keeps, KeptFrames, both_kept, grown_if};
+ghost use Rattle.vale_player.specs.Kept.{kept_opened, kept_received, new_records, ports_in, record_at};
 
-use nm_types::{Name, NoMemory, OpenFault, PortId, Side};
+use nm_types::{Name, NoMemory, OpenFault, PortId};
 use nm_user::{Received, Session};
 use pcap_io::Record;
 use std::alloc::Global;
@@ -23,6 +27,12 @@ impl Model for KeptPort {
     ghost Value = { KeptFrames };
 
     ghost view = { λ k. record { id = k.port.0; records = k.records.items } };
+
+    // Each record can be written.
+    ghost use Rattle.std.specs.List.{AllByRecursion};
+    ghost use Rattle.vale_captures.specs.Outputs.{IsShortRecord};
+
+    ghost invariant = { λ k. AllByRecursion IsShortRecord k.records.items };
 }
 
 /// The bytes of the frame so many steps before the tail of a port's receive ring.
@@ -39,7 +49,8 @@ fn bytes_before_tail<'a>(session: &'a Session, port: PortId, back: u32) -> &'a [
 /// The record of a frame.
 fn record_of_frame(alloc: Global, entry: u32, place: u32, frame: &[u8]) -> Result<Record, NoMemory>
     requires { length frame.now < 2 ^ 16 }
-    ensures { IfOk result (λ made. made ≡ record_at entry place frame.now) }
+    ensures made { IfOk result (λ made. made ≡ record_at entry place frame.now) }
+    ensures short { IfOk result IsShortRecord }
 {
     let mut bytes = Vec::new(alloc);
     bytes.extend_from_slice(frame)?;
@@ -58,8 +69,10 @@ fn add_frames(
     received: Received,
     records: &mut Vec<Record>,
 ) -> Result<(), NoMemory>
-    ensures { OnOk result (records.new.items
+    requires { AllByRecursion IsShortRecord records.old.items }
+    ensures added { OnOk result (records.new.items
         ≡ records.old.items ++ new_records session.now.own port.0 received) }
+    ensures short { AllByRecursion IsShortRecord records.new.items }
 {
     let alloc = *records.allocator();
     for place in 0..received.gave {
@@ -101,59 +114,173 @@ fn grow_all(
     Ok(())
 }
 
-/// Keeps what a receive sync has brought. If memory is wanting, nothing is kept any more.
-pub(crate) fn keep_received(
+/// Keeps what a receive sync has brought.
+fn keep_received(
     session: &Session,
     port: PortId,
     got: Option<Received>,
-    kept: &mut Vec<KeptPort>,
-)
-    ensures { (s : SessionState) → IsThere None s → SavesBy s session.now port.0 got
-        → AreKept s kept.old.items → AreKept session.now kept.new.items }
+    kept: Vec<KeptPort>,
+) -> Result<Vec<KeptPort>, NoMemory>
+    ensures { IfOk result (λ now. now.items
+        ≡ kept_received session.now.own port.0 got kept.items) }
 {
-    let Some(received) = got else { return };
-    match grow_all(session, port, received, kept.as_mut_slice()) {
-        Ok(()) => {}
-        Err(_) => kept.clear(),
-    }
+    let Some(received) = got else {
+        return Ok(kept);
+    };
+    let mut kept = kept;
+    grow_all(session, port, received, kept.as_mut_slice())?;
+    Ok(kept)
 }
 
-/// A port is kept, which has given nothing so far. If memory is wanting, it is not kept.
-fn begin(kept: &mut Vec<KeptPort>, port: PortId) -> Result<(), NoMemory>
-    ensures begun { OnOk result (kept.new.items
-        ≡ kept.old.items ++ record { id = port.0; records = [] } ∷ []) }
-    ensures same { OnErr result (kept.new.items ≡ kept.old.items) }
+/// A port is kept, which has given nothing so far.
+fn begin(kept: Vec<KeptPort>, port: PortId) -> Result<Vec<KeptPort>, NoMemory>
+    ensures { IfOk result (λ now. now.items
+        ≡ kept.items ++ record { id = port.0; records = [] } ∷ []) }
 {
+    let mut kept = kept;
     let alloc = *kept.allocator();
     kept.reserve(1)?;
     kept.push_reserved(KeptPort {
         port,
         records: Vec::new(alloc),
     });
-    Ok(())
+    Ok(kept)
+}
+
+/// The frames of ports of a name are kept.
+fn is_named(names: &[Name], name: &Name) -> bool
+    ensures { result ≡ list_any (λ (one : List ℕ). bytes_eq one name.now) names.now }
+{
+    names.iter().any(|one| one.as_bytes() == name.as_bytes())
 }
 
 /// Keeps a port from its opening on, if its name is among those whose frames are kept.
-pub(crate) fn keep_opened(
-    session: &Session,
+fn keep_opened(
     names: &[Name],
     name: &Name,
     opened: &Result<PortId, OpenFault>,
-    kept: &mut Vec<KeptPort>,
-)
-    requires { IfOk opened.now (λ port. port.0 ≡ length session.now.knows.seen) }
-    ensures { IsThere None session.now
-        → AreKept session.now kept.old.items → AreKept session.now kept.new.items }
+    kept: Vec<KeptPort>,
+) -> Result<Vec<KeptPort>, NoMemory>
+    ensures { IfOk result (λ now. now.items
+        ≡ kept_opened names.now name.now opened.now kept.items) }
 {
-    let Ok(port) = opened else { return };
-    let Some(_) = session.ring(*port, Side::Rx) else {
-        return;
-    };
-    if !names.contains(name) {
-        return;
+    match opened {
+        Ok(port) => {
+            if is_named(names, name) {
+                begin(kept, *port)
+            } else {
+                Ok(kept)
+            }
+        }
+        Err(_) => Ok(kept),
     }
-    match begin(kept, *port) {
-        Ok(()) => {}
-        Err(_) => {}
+}
+
+/// Ports that are kept, and others behind them; none if memory is wanting, or was for the others.
+fn joined(kept: Vec<KeptPort>, others: Option<Vec<KeptPort>>) -> Option<Vec<KeptPort>>
+    ensures { AreOrLost (both_kept (Some kept.items) (ports_in others)) (ports_in result) }
+{
+    let Some(more) = others else {
+        return None;
+    };
+    let mut kept = kept;
+    let mut more = more;
+    match kept.append(&mut more) {
+        Ok(()) => Some(kept),
+        Err(_) => None,
+    }
+}
+
+/// What is kept of a port.
+fn kept_of(kept: &[KeptPort], port: PortId) -> Option<&KeptPort>
+    ensures { option_copied result ≡ find (λ (one : KeptFrames). one.id == port.0) kept.now }
+{
+    kept.iter().find(|one| one.port.0 == port.0)
+}
+
+/// The ports whose frames are kept, unless memory was wanting.
+#[derive(Drop)]
+pub struct SavedPorts {
+    /// None once memory was wanting.
+    ports: Option<Vec<KeptPort>>,
+}
+
+impl Model for SavedPorts {
+    ghost use Rattle.std.specs.Prelude.{List, Option};
+    ghost use Rattle.vale_player.specs.Kept.{KeptFrames, ports_in};
+
+    ghost Value = { Option (List KeptFrames) };
+
+    ghost view = { λ k. ports_in k.ports };
+}
+
+impl SavedPorts {
+    /// No port is kept so far.
+    pub fn new(alloc: Global) -> SavedPorts
+        ensures { result ≡ Some [] }
+    {
+        SavedPorts {
+            ports: Some(Vec::new(alloc)),
+        }
+    }
+
+    /// Keeps what a receive sync has brought. If memory is wanting, nothing is kept any more.
+    pub(crate) fn receive(&mut self, session: &Session, port: PortId, got: Option<Received>)
+        ensures { AreOrLost (option_map (kept_received session.now.own port.0 got) self.old)
+            self.new }
+    {
+        if let Some(kept) = self.ports.take() {
+            self.ports = keep_received(session, port, got, kept).ok();
+        }
+    }
+
+    /// Keeps a port from its opening on, if its name is among those whose frames are kept. If memory
+    /// is wanting, nothing is kept any more.
+    pub(crate) fn open(&mut self, names: &[Name], name: &Name, opened: &Result<PortId, OpenFault>)
+        ensures { AreOrLost (option_map (kept_opened names.now name.now opened.now) self.old)
+            self.new }
+    {
+        if let Some(kept) = self.ports.take() {
+            self.ports = keep_opened(names, name, opened, kept).ok();
+        }
+    }
+
+    /// The port is kept, or memory was wanting.
+    fn has(&self, port: PortId) -> bool
+        ensures { result ≡ true → Keeps self.now port.0 }
+    {
+        let Some(kept) = &self.ports else {
+            return true;
+        };
+        match kept_of(kept, port) {
+            Some(_) => true,
+            None => false,
+        }
+    }
+
+    /// Of a port that is not kept not all frames are there. Then nothing is kept any more.
+    pub(crate) fn want(&mut self, port: PortId)
+        ensures keeps { Keeps self.new port.0 }
+        ensures kept { AreOrLost self.old self.new }
+    {
+        if !self.has(port) {
+            self.ports = None;
+        }
+    }
+
+    /// Puts the ports that others have kept behind these.
+    pub fn join(&mut self, others: SavedPorts)
+        ensures { AreOrLost (both_kept self.old others) self.new }
+    {
+        if let Some(kept) = self.ports.take() {
+            self.ports = joined(kept, others.ports);
+        }
+    }
+
+    /// All ports that are kept; none once memory was wanting.
+    pub fn into_ports(self) -> Option<Vec<KeptPort>>
+        ensures { ports_in result ≡ self }
+    {
+        self.ports
     }
 }

@@ -12,5 +12,5 @@ mod own_lines;
 mod player;
 pub mod saving;
 
-pub use kept::KeptPort;
+pub use kept::{KeptPort, SavedPorts};
 pub use player::{Player, SaveFile};

@@ -1,4 +1,4 @@
-use crate::kept::KeptPort;
+use crate::kept::SavedPorts;
 use nm_types::{Name, PortId};
 use nm_user::Session;
 use std::marker::Model;
@@ -28,8 +28,8 @@ pub struct Player<'f> {
     pub(crate) saves: Vec<SaveFile>,
     /// The names of the ports whose frames are kept.
     pub(crate) names: &'f [Name],
-    /// Such ports, with all that they have given.
-    pub(crate) kept: Vec<KeptPort>,
+    /// Such ports, with all that they have given; those of all notes are among them.
+    pub(crate) kept: SavedPorts,
     /// Memory for the frame that a line puts.
     pub(crate) frame: Vec<u8>,
 }
@@ -48,5 +48,5 @@ impl<'f> Model for Player<'f> {
 
     ghost use Rattle.vale_player.specs.Kept.{IsKeeping};
 
-    ghost invariant = { λ p. IsKeeping p.session p.kept.items };
+    ghost invariant = { λ p. IsKeeping p.session p.saves.items p.kept };
 }

@@ -1,8 +1,6 @@
-use Rattle.std.proofs.Common.{◌∷◌, [], ◌++◌, take, List, ◌∙◌, sym, ap, subst}
-use Rattle.std.specs.List.{AllByRecursion}
+use Rattle.std.proofs.Common.{◌∷◌, [], ◌++◌, take, List, ◌∙◌, sym, ap}
 use Rattle.pcap_io.specs.declared.record.Record.{Record}
-use Rattle.vale_captures.specs.Outputs.{IsShortRecord}
-use Rattle.vale_act.proofs.ActOutputs.{each-more, one-more-of}
+use Rattle.vale_act.proofs.ActOutputs.{one-more-of}
 use Rattle.vale_act.proofs.outputs.copy_records.Goals as goal
 
 pub loop-one-preserved : goal.loop-one-preserved
@@ -11,8 +9,5 @@ loop-one-preserved c =
     let i = c.loop-one.one-index in
     let one = c.one-item.result in
     let made = c.in_ok-copy_record.field-0 in
-    record {
-      made = c.in_ok-push.ensures.items ∙ (ap (λ (rs : List Record). rs ++ made ∷ []) c.loop-one.invariant.made
-          ∙ (ap (λ (r : Record). take i records ++ r ∷ []) c.in_ok-copy_record.ensures.made ∙ sym (one-more-of records i one c.loop-one-test.true c.one-item.is)));
-      short = subst (AllByRecursion IsShortRecord) (sym c.in_ok-push.ensures.items) (each-more IsShortRecord c.loop-one.copies.items made c.loop-one.invariant.short c.in_ok-copy_record.ensures.short);
-    }
+    c.in_ok-push.ensures.items ∙ (ap (λ (rs : List Record). rs ++ made ∷ []) c.loop-one.invariant
+    ∙ (ap (λ (r : Record). take i records ++ r ∷ []) c.in_ok-copy_record.ensures ∙ sym (one-more-of records i one c.loop-one-test.true c.one-item.is)))

@@ -6,6 +6,7 @@ use Rattle.vale_player.specs.Inputs.{captures_of}
 use Rattle.vale_act.specs.Seats.{AllAre, AreNew, AreSaves, IsEmpty}
 use Rattle.vale_act.specs.declared.seat.Seat.{Seat}
 use Rattle.vale_act.proofs.Begins.{begins-between}
+use Rattle.vale_act.proofs.KeptNotes.{files-kept}
 use Rattle.vale_act.proofs.Plays.{all-empty}
 use Rattle.vale_act.proofs.Runnable.{sound-runs}
 use Rattle.vale_act.proofs.DepartingScript.{new-leaving}
@@ -56,3 +57,13 @@ returns-in-Err-clause-empty g c =
     let made = subst (λ r. IfOk r (λ seats. AreNew (length c.users-count.result.now) seats.items)) c.in-Ok-new_seats.is c.new_seats.ensures in
     let new : AreNew (length c.users-count.result.now) c.deref_mut.result.now = subst (λ (l : List Seat). AreNew (length c.users-count.result.now) l) (sym c.deref_mut.ensures.value) made in
     c.run_script-done.ensures.empty (new-leaving (length c.users-count.result.now) (knowing c.args.pass) c.deref_mut.result.now c.requires.mine new)
+
+pub returns-in-Ok-done-clause-saves : goal.returns-in-Ok-done-clause-saves
+returns-in-Ok-done-clause-saves g c =
+    let seats = c.in-Ok-new_seats.seats in
+    let left = c.run_script-done.new.seats in
+    let files = c.take_all_saves-saved.result.items in
+    let long : length left ≡ seats.len = c.run_script-done.auto.seats ∙ (ap length c.deref_mut.ensures.value ∙ sym seats.ok.0) in
+    files-kept c.run_script-done.new.kept left files
+    (subst (λ (l : List Seat). AreSaves l files) (with_items_is seats left long)
+    (subst (λ (l : List Seat). AreSaves l files) c.deref_mut-2.ensures.value c.take_all_saves-saved.ensures.saves)) c.run_script-done.ensures.saves

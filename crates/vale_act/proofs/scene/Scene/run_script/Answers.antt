@@ -50,4 +50,4 @@ returns-clause-empty g c can =
 
 pub returns-clause-kept : goal.returns-clause-kept
 returns-clause-kept g c none =
-    c.close_all.ensures.kept (none-whole (fixed_in c.args.self.now.fabric.now).pool (knowing c.run_units-done.new.main).seen c.args.kept.now.items none)
+    c.close_all.ensures.kept (none-whole (fixed_in c.args.self.now.fabric.now).pool (knowing c.run_units-done.new.main).seen c.args.kept.now none)

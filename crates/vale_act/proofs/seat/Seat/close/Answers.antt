@@ -6,6 +6,7 @@ use Rattle.vale_act.specs.declared.seat.Seat.TheVariants.{There}
 use Rattle.vale_act.proofs.Alone.{closes-away, closes-there}
 use Rattle.vale_act.specs.Leaving.{ComesAloneAt}
 use Rattle.vale_act.proofs.DepartingScript.{absent-leaving, leaver-leaving}
+use Rattle.vale_act.proofs.KeptNotes.{both-left, saves-stay, saves-left}
 use Rattle.vale_act.proofs.KeptPlays.{keeps-met, keeps-left}
 use Rattle.vale_act.proofs.seat.Seat.close.Goals as goal
 
@@ -41,7 +42,7 @@ returns-in-Gone-clause-leaves g c =
 
 pub returns-in-Away-clause-kept : goal.returns-in-Away-clause-kept
 returns-in-Away-clause-kept g c =
-    keeps-met (fixed_in c.args.fabric.now).pool (knowing c.args.main.now) (knowing c.meet.new.main) c.args.self.now c.meet.new.self c.args.kept.now.items c.meet.ensures.meets
+    keeps-met (fixed_in c.args.fabric.now).pool (knowing c.args.main.now) (knowing c.meet.new.main) c.args.self.now c.meet.new.self c.args.kept.now c.meet.ensures.meets
 
 pub returns-in-There-clause-kept : goal.returns-in-There-clause-kept
 returns-in-There-clause-kept g c =
@@ -50,9 +51,24 @@ returns-in-There-clause-kept g c =
     let pool = (fixed_in c.args.fabric.now).pool in
     let w = knowing c.join.new.pass in
     keeps-left pool c.in-There.player.session.fixed.pool (knowing c.args.main.now) (knowing c.meet.new.main) w (knowing c.leave_keeping-pass.result.0) c.args.self.now c.meet.new.self
-    c.args.kept.now.items c.leave_keeping-pass.result.2.items c.keep_ports.new.kept.items c.meet.ensures.meets (ap (λ (f : Fixed). f.pool) on.1)
-    c.join.ensures.known c.join.ensures.pass.2 c.leave_keeping-pass.ensures.whole (c.keep_ports.ensures pool w.seen)
+    c.args.kept.now c.leave_keeping-pass.result.2 c.join-in-There.new.self c.meet.ensures.meets (ap (λ (f : Fixed). f.pool) on.1)
+    c.join.ensures.known c.join.ensures.pass.2 c.leave_keeping-pass.ensures.whole c.join-in-There.ensures
 
 pub returns-in-Gone-clause-kept : goal.returns-in-Gone-clause-kept
 returns-in-Gone-clause-kept g c =
-    keeps-met (fixed_in c.args.fabric.now).pool (knowing c.args.main.now) (knowing c.meet.new.main) c.args.self.now c.meet.new.self c.args.kept.now.items c.meet.ensures.meets
+    keeps-met (fixed_in c.args.fabric.now).pool (knowing c.args.main.now) (knowing c.meet.new.main) c.args.self.now c.meet.new.self c.args.kept.now c.meet.ensures.meets
+
+pub returns-in-Away-clause-saves : goal.returns-in-Away-clause-saves
+returns-in-Away-clause-saves g c =
+    saves-stay (knowing c.args.main.now) c.args.self.now c.meet.new.self c.replace.new.dest c.args.kept.now c.meet.ensures.meets.seat (c.replace.ensures.after ∙ (sym c.in-Away.is ∙ c.replace.ensures.value))
+
+pub returns-in-There-clause-saves : goal.returns-in-There-clause-saves
+returns-in-There-clause-saves g c was =
+    saves-left c.replace-in-There.new.dest c.leave_keeping-pass.result.1 c.args.kept.now c.leave_keeping-pass.result.2 c.join-in-There.new.self c.replace-in-There.ensures.after c.join-in-There.ensures c.leave_keeping-pass.ensures.kept
+
+pub returns-in-Gone-clause-saves : goal.returns-in-Gone-clause-saves
+returns-in-Gone-clause-saves g c =
+    saves-stay (knowing c.args.main.now) c.args.self.now c.meet.new.self c.replace-in-Gone.new.dest c.args.kept.now c.meet.ensures.meets.seat (c.replace-in-Gone.ensures.after ∙ (sym c.in-Gone.is ∙ c.replace.ensures.value))
+
+pub returns-in-There-clause-more : goal.returns-in-There-clause-more
+returns-in-There-clause-more g c = both-left c.args.kept.now c.leave_keeping-pass.result.2 c.join-in-There.new.self c.join-in-There.ensures

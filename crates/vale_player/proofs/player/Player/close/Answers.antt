@@ -29,4 +29,4 @@ pub invariant_of-self : goal.invariant_of-self
 invariant_of-self g c =
     let s = c.self.inside.session in
     let t = c.detach.new.self in
-    keeping s t c.self.inside.kept.items c.detach.ensures.there (detach-saves s t c.self.invariant.there c.detach.ensures.there c.in-Some.port.0 c.detach.result c.detach.ensures.detached) c.self.invariant
+    keeping s t c.self.inside.kept c.detach.ensures.there (detach-saves s t c.self.invariant.there c.detach.ensures.there c.in-Some.port.0 c.detach.result c.detach.ensures.detached) c.self.invariant

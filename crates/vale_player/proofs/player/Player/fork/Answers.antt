@@ -7,7 +7,7 @@ use Rattle.vale_player.proofs.player.Player.fork.Goals as goal
 
 pub invariant_of-self : goal.invariant_of-self
 invariant_of-self c =
-    forked-keeping c.self.inside.session c.fork.new.self c.self.inside.kept.items c.fork.ensures.kept
+    forked-keeping c.self.inside.session c.fork.new.self c.self.inside.kept c.fork.ensures.kept
     (subst (IsThere None) (sym c.fork.ensures.kept) (there-forked c.self.invariant.there)) c.self.invariant
 
 pub returns-clause-there : goal.returns-clause-there

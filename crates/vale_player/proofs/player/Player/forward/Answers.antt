@@ -8,4 +8,4 @@ use Rattle.vale_player.proofs.player.Player.forward.Goals as goal
 
 pub invariant_of-self : goal.invariant_of-self
 invariant_of-self c =
-    edited-keeping c.self.inside.session c.forward.new.self _ c.self.inside.kept.items c.forward.ensures (subst (IsThere None) (sym c.forward.ensures) (there-edited (with_forwarded c.args.count c.in-Some.here.0 c.in-Some-port_named.there.0) (edits-keep.forwarded c.args.count c.in-Some.here.0 c.in-Some-port_named.there.0) c.self.invariant.there)) c.self.invariant
+    edited-keeping c.self.inside.session c.forward.new.self _ c.self.inside.kept c.forward.ensures (subst (IsThere None) (sym c.forward.ensures) (there-edited (with_forwarded c.args.count c.in-Some.here.0 c.in-Some-port_named.there.0) (edits-keep.forwarded c.args.count c.in-Some.here.0 c.in-Some-port_named.there.0) c.self.invariant.there)) c.self.invariant

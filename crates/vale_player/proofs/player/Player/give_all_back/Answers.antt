@@ -11,7 +11,7 @@ use Rattle.vale_player.proofs.player.Player.give_all_back.Goals as goal
 
 pub invariant_of-self : goal.invariant_of-self
 invariant_of-self c =
-    edited-keeping c.self.inside.session c.give_all_back.new.self _ c.self.inside.kept.items c.give_all_back.ensures (subst (IsThere None) (sym c.give_all_back.ensures) (there-edited (with_all_back c.in-Some.port.0) (edits-keep.all_back c.in-Some.port.0) c.self.invariant.there)) c.self.invariant
+    edited-keeping c.self.inside.session c.give_all_back.new.self _ c.self.inside.kept c.give_all_back.ensures (subst (IsThere None) (sym c.give_all_back.ensures) (there-edited (with_all_back c.in-Some.port.0) (edits-keep.all_back c.in-Some.port.0) c.self.invariant.there)) c.self.invariant
 
 pub returns-in-Some : goal.returns-in-Some
 returns-in-Some c =

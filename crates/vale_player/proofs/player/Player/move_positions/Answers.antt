@@ -11,7 +11,7 @@ use Rattle.vale_player.proofs.player.Player.move_positions.Goals as goal
 
 pub invariant_of-self : goal.invariant_of-self
 invariant_of-self c =
-    edited-keeping c.self.inside.session c.put_positions.new.self _ c.self.inside.kept.items c.put_positions.ensures (subst (IsThere None) (sym c.put_positions.ensures) (there-edited (with_positions c.args.side c.in-Some.port.0 c.args.head c.args.cur) (edits-keep.positions c.args.side c.in-Some.port.0 c.args.head c.args.cur) c.self.invariant.there)) c.self.invariant
+    edited-keeping c.self.inside.session c.put_positions.new.self _ c.self.inside.kept c.put_positions.ensures (subst (IsThere None) (sym c.put_positions.ensures) (there-edited (with_positions c.args.side c.in-Some.port.0 c.args.head c.args.cur) (edits-keep.positions c.args.side c.in-Some.port.0 c.args.head c.args.cur) c.self.invariant.there)) c.self.invariant
 
 pub returns-in-Some : goal.returns-in-Some
 returns-in-Some c =

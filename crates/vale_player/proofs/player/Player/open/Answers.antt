@@ -2,7 +2,7 @@ use Rattle.std.proofs.Common.{refl, sym, subst, ◌∙◌}
 use Rattle.vale_replay.specs.Tasks.{Task, OpenPort}
 use Rattle.vale_player.specs.Players.{PlayerState, HasCalled}
 use Rattle.vale_player.proofs.PortCalls.{opens-ok, opens-err, opens-there}
-use Rattle.vale_player.proofs.KeptPorts.{kept-stay, open-saves}
+use Rattle.vale_player.proofs.KeptSaves.{opened-keeping}
 use Rattle.vale_player.proofs.player.Player.open.Goals as goal
 use Rattle.vale_player.proofs.player.Player.open.Goals.{in-Ok, in-Err}
 
@@ -11,11 +11,8 @@ invariant_of-self g c =
     let p : PlayerState = record { number = c.self.inside.number; session = c.self.inside.session; saves = c.self.inside.saves.items; names = c.self.inside.names.now } in
     let q : PlayerState = record p { session = c.open-opened.new.self } in
     let there = opens-there p q c.self.invariant.there refl c.args.name.now c.args.tx c.args.rx c.args.extra c.open-opened.result c.open-opened.ensures.made c.open-opened.ensures.unopened in
-    record {
-      there = there;
-      all = c.keep_opened.ensures there (kept-stay p.session q.session c.self.inside.kept.items
-          (open-saves p.session q.session c.self.invariant.there c.args.name.now c.args.tx c.args.rx c.args.extra c.open-opened.result c.open-opened.ensures.made c.open-opened.ensures.unopened) c.self.invariant.all);
-    }
+    opened-keeping p.session q.session c.self.invariant.there there c.args.name.now c.args.tx c.args.rx c.args.extra c.self.inside.names.now c.open-opened.result p.saves c.self.inside.kept _
+    c.open-opened.ensures.made c.open-opened.ensures.port c.open-opened.ensures.unopened c.open.ensures c.self.invariant
 
 pub returns : goal.returns
 returns g c =

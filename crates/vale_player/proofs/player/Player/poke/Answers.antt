@@ -8,4 +8,4 @@ use Rattle.vale_player.proofs.player.Player.poke.Goals as goal
 
 pub invariant_of-self : goal.invariant_of-self
 invariant_of-self c =
-    edited-keeping c.self.inside.session c.write_slot.new.self _ c.self.inside.kept.items c.write_slot.ensures (subst (IsThere None) (sym c.write_slot.ensures) (there-edited (with_slot_field c.args.side c.in-Some.port.0 c.args.slot c.field_written.result) (edits-keep.slot_field c.args.side c.in-Some.port.0 c.args.slot c.field_written.result) c.self.invariant.there)) c.self.invariant
+    edited-keeping c.self.inside.session c.write_slot.new.self _ c.self.inside.kept c.write_slot.ensures (subst (IsThere None) (sym c.write_slot.ensures) (there-edited (with_slot_field c.args.side c.in-Some.port.0 c.args.slot c.field_written.result) (edits-keep.slot_field c.args.side c.in-Some.port.0 c.args.slot c.field_written.result) c.self.invariant.there)) c.self.invariant

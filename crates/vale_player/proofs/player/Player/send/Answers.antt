@@ -18,7 +18,7 @@ pub invariant_of-self : goal.invariant_of-self
 invariant_of-self g c =
     let s = c.self.inside.session in
     let t = c.transmit.new.session in
-    keeping s t c.self.inside.kept.items c.transmit.ensures.there
+    keeping s t c.self.inside.kept c.transmit.ensures.there
     (sync-saves s t c.self.invariant.there c.transmit.ensures.there c.args.port.0 c.transmit.result c.transmit.ensures.came c.transmit.ensures.none) c.self.invariant
 
 pub returns : goal.returns

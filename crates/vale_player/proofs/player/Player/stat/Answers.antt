@@ -24,7 +24,7 @@ pub invariant_of-self : goal.invariant_of-self
 invariant_of-self g c =
     let p : PlayerState = record { number = c.self.inside.number; session = c.self.inside.session; saves = c.self.inside.saves.items; names = c.self.inside.names.now } in
     let q : PlayerState = record p { session = c.stats.new.self } in
-    keeping p.session q.session c.self.inside.kept.items
+    keeping p.session q.session c.self.inside.kept
     (reads-there p q c.self.invariant.there refl c.args.name.now c.in-Some.port (sym c.port_named.ensures ∙ c.in-Some.is) c.stats.result c.stats.ensures.made c.stats.ensures.full)
     (stat-saves p.session q.session c.self.invariant.there c.in-Some.port c.stats.result c.stats.ensures.made c.stats.ensures.full) c.self.invariant
 

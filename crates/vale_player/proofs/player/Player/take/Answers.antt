@@ -6,6 +6,7 @@ use Rattle.vale_player.specs.Players.{PlayerState, HasCalled}
 use Rattle.vale_player.proofs.Changes.{id-of}
 use Rattle.vale_player.proofs.PortCalls.{found-port, is-some, passed}
 use Rattle.vale_player.proofs.Leading.{port-at}
+use Rattle.vale_player.proofs.KeptSaves.{received-keeping}
 use Rattle.vale_player.proofs.KeptPorts.{takes-on, stops-on, still-on}
 use Rattle.vale_player.proofs.player.Player.take.Goals as goal
 
@@ -22,7 +23,8 @@ receive-ended-requires-clause-port g c _ _ =
 
 pub invariant_of-self : goal.invariant_of-self
 invariant_of-self g c =
-    record { there = c.receive-ended.ensures.there; all = c.keep_received.ensures c.self.inside.session c.self.invariant.there c.receive-ended.ensures.saves c.self.invariant.all }
+    received-keeping c.self.inside.session c.receive-ended.new.session c.in-Some.port.0 c.receive-ended.result.0 c.self.inside.saves.items c.self.inside.kept _
+    c.receive-ended.ensures.there c.receive-ended.ensures.saves c.receive.ensures c.self.invariant
 
 pub returns : goal.returns
 returns g c =

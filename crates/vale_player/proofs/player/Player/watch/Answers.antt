@@ -24,7 +24,7 @@ pub invariant_of-self : goal.invariant_of-self
 invariant_of-self g c =
     let p : PlayerState = record { number = c.self.inside.number; session = c.self.inside.session; saves = c.self.inside.saves.items; names = c.self.inside.names.now } in
     let q : PlayerState = record p { session = c.watch.new.self } in
-    keeping p.session q.session c.self.inside.kept.items
+    keeping p.session q.session c.self.inside.kept
     (watches-there p q c.self.invariant.there refl c.args.monitor.now c.in-Some.port (sym c.port_named.ensures ∙ c.in-Some.is) c.args.target.now c.args.sides c.watch.result c.watch.ensures.watched c.watch.ensures.unwatched)
     (watch-saves p.session q.session c.self.invariant.there c.in-Some.port c.args.target.now c.args.sides c.watch.result c.watch.ensures.watched c.watch.ensures.unwatched) c.self.invariant
 

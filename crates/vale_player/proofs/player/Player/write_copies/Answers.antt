@@ -12,7 +12,7 @@ pub invariant_of-self : goal.invariant_of-self
 invariant_of-self c =
     let p : PlayerState = record { number = c.self.inside.number; session = c.self.inside.session; saves = c.self.inside.saves.items; names = c.self.inside.names.now } in
     let named = named-before p c.args.self.now c.args.name.now c.args.port c.self.view_is c.requires.named in
-    edited-keeping p.session c.put_copies.new.self _ c.self.inside.kept.items c.put_copies.ensures.own
+    edited-keeping p.session c.put_copies.new.self _ c.self.inside.kept c.put_copies.ensures.own
     (subst (IsThere None) (sym c.put_copies.ensures.own) (copies-there p c.args.name.now c.args.bytes.now c.args.port c.self.invariant.there named c.put_copies.result)) c.self.invariant
 
 pub returns : goal.returns

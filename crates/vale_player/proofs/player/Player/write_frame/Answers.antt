@@ -12,7 +12,7 @@ use Rattle.vale_player.proofs.player.Player.write_frame.Goals as goal
 pub invariant_of-self : goal.invariant_of-self
 invariant_of-self c =
     let id = c.args.port.0 in
-    edited-keeping c.self.inside.session c.put_frame.new.self _ c.self.inside.kept.items c.put_frame.ensures (subst (IsThere None) (sym c.put_frame.ensures) (there-edited (with_frame id c.args.bytes.now) (edits-keep.frame id c.args.bytes.now) c.self.invariant.there)) c.self.invariant
+    edited-keeping c.self.inside.session c.put_frame.new.self _ c.self.inside.kept c.put_frame.ensures (subst (IsThere None) (sym c.put_frame.ensures) (there-edited (with_frame id c.args.bytes.now) (edits-keep.frame id c.args.bytes.now) c.self.invariant.there)) c.self.invariant
 
 pub returns : goal.returns
 returns c =
