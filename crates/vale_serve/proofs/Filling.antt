@@ -7,13 +7,13 @@ use Rattle.std.specs.declared.alloc.Global.{Global}
 use Rattle.std.proofs.lemmas.Bool.{le-leb}
 use Rattle.std.proofs.lemmas.List.{map-append, length-map}
 use Rattle.std.proofs.lemmas.Option.{slice_get-get_or, slice_get-map}
+use Rattle.nm_types.proofs.Lists.{each-back, each-front}
 use Rattle.nm_frag.specs.Parts.{slots_of_length, first_parts}
 use Rattle.nm_region.specs.Buffers.{Buffer, indices_of}
 use Rattle.vale_line.specs.declared.got.Got.{Got}
 use Rattle.vale_line.specs.Gots.{got_of, gots_of_parts, gots_with, buffers_of}
 use Rattle.vale_line.specs.Leased.{first_size}
 use Rattle.vale_book.specs.BookView.{AreOf, IsBufferOf}
-use Rattle.vale_book.proofs.Standing.{each-left, each-right}
 use Rattle.vale_entry.proofs.Each.{each-append}
 use Rattle.vale_entry.proofs.ListLaws.{each-at}
 use Rattle.vale_serve.specs.Filling.{placed, IsPlaceIn}
@@ -127,8 +127,8 @@ pub fill-region : (region : ℕ) (filled : List Got) (empty : List Buffer) (byte
     → AreOf region (buffers_of (filled ++ gots_with bytes empty) ++ drop (slots_of_length (length bytes)) empty)
 fill-region region filled [] bytes few some are = absurd (omega (arith, some))
 fill-region region filled (e ∷ es) bytes few some are =
-    let front = each-left (IsBufferOf region) (buffers_of filled) (e ∷ es) are in
-    let back = each-right (IsBufferOf region) (buffers_of filled) (e ∷ es) are in
+    let front = each-front (IsBufferOf region) (buffers_of filled) (e ∷ es) are in
+    let back = each-back (IsBufferOf region) (buffers_of filled) (e ∷ es) are in
     let g = got_of (take 2048 bytes) 0 e in
     let one : AreOf region (buffers_of (filled ++ g ∷ [])) = subst (AreOf region) (sym (buffers-append filled (g ∷ []))) (each-append (IsBufferOf region) (buffers_of filled) (buffers_of (g ∷ [])) front (back.0, tt)) in
     let gots : AreOf region (buffers_of (filled ++ gots_with bytes (e ∷ es))) = subst (λ (x : List Got). AreOf region (buffers_of (filled ++ x))) (sym (gots-one bytes e es few)) one in

@@ -1,9 +1,9 @@
 use Rattle.std.proofs.Common.{ℕ, ◌≡◌, ◌≤◌, ◌<◌, ◌++◌, [], ◌∷◌, List, length, take, drop, append-nil, refl, sym, ◌∙◌, ap, subst, arith, rules}
+use Rattle.nm_types.proofs.Lists.{each-front}
 use Rattle.nm_region.specs.Buffers.{Buffer, indices_of}
 use Rattle.vale_line.specs.Gots.{buffers_of, frames_in}
 use Rattle.vale_line.specs.Leased.{Leased, first_size}
 use Rattle.vale_book.specs.BookView.{AreOf, IsBufferOf}
-use Rattle.vale_book.proofs.Standing.{each-left}
 use Rattle.vale_serve.specs.Filling.{placed}
 use Rattle.vale_serve.specs.Users.{contents}
 use Rattle.vale_serve.proofs.Filling.{slots-one, first-one, drop-next, left-of, drop-all, no-buffers, placed-more, next-frame, fill-indices, fill-left, fill-region, indices_in}
@@ -70,5 +70,5 @@ returns c =
       full = full;
       empty = empty;
       kept = rw (buffers, frames) refl;
-      region_is = λ region are. each-left (IsBufferOf region) (buffers_of l.filled) l.empty (k.region_is region are);
+      region_is = λ region are. each-front (IsBufferOf region) (buffers_of l.filled) l.empty (k.region_is region are);
     }

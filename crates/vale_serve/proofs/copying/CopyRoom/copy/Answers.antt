@@ -1,6 +1,6 @@
 use Rattle.std.proofs.Common.{suc, ◌≤◌, ◌∷◌, [], length, subst, arith}
 use Rattle.std.specs.List.{AllByRecursion}
-use Rattle.vale_book.proofs.Standing.{each-left}
+use Rattle.nm_types.proofs.Lists.{each-front}
 use Rattle.vale_serve.specs.Copies.{IsFrameRoom}
 use Rattle.vale_serve.proofs.Copied.{copied-more, fits-more}
 use Rattle.vale_serve.proofs.copying.CopyRoom.copy.Goals as goal
@@ -25,7 +25,7 @@ loop-i-preserved c =
     record {
       made = rw pushed (copied-more c.loop-i.all.items one gots i got few c.index-gots-i.is k.made c.copied.ensures.bytes);
       few = rw pushed (fits-more c.loop-i.all.items one k.few c.copied.ensures.few);
-      each = each-left IsFrameRoom c.take_last.new.self.items (c.take_last.result ∷ []) (subst (AllByRecursion IsFrameRoom) c.take_last.ensures.items k.each);
+      each = each-front IsFrameRoom c.take_last.new.self.items (c.take_last.result ∷ []) (subst (AllByRecursion IsFrameRoom) c.take_last.ensures.items k.each);
       left = omega (arith, left, less);
       count = omega (arith, count, more);
       room = rw c.push_reserved.ensures.capacity k.room;
