@@ -1,6 +1,6 @@
 use anyhow::{Result, anyhow};
 use nm_io::StdSink;
-use nm_types::Limits;
+use nm_types::{Limits, MAX_POOL};
 use std::alloc::{Alloc, Global};
 use std::fs::{self, Files};
 use std::io::Print;
@@ -44,8 +44,8 @@ pub fn run<R: Print + Files + Alloc>(
         return Err(anyhow!("a file and the size of a pool are wanted"));
     };
     let pool: u32 = pool.parse()?;
-    if pool < 1 || pool > 65_536 {
-        return Err(anyhow!("a pool has 1 to 65,536 buffers"));
+    if pool < 1 || pool > MAX_POOL {
+        return Err(anyhow!("a pool has 1 to {MAX_POOL} buffers"));
     }
     let text = fs::read(rt, &path)?;
     if text.len() > 4_000_000_000 {
@@ -54,11 +54,11 @@ pub fn run<R: Print + Files + Alloc>(
     let Ok(Text { entries, .. }) = read(alloc, &text) else {
         return Err(anyhow!("the text was refused"));
     };
-    let mut drive = Drive::new(alloc, pool, Limits::VERSION_1)?;
+    let mut drive = Drive::new(alloc, pool, Limits::VERSION_2)?;
     let served = serve(rt, &mut drive, entries);
     let history = drive.close();
     served?;
-    if history.len() > 8_388_608 {
+    if history.len() == u32::MAX {
         return Err(anyhow!("there are too many entries"));
     }
     match write_transcript(alloc, &mut StdSink::new(rt), pool, history.entries(), pool) {

@@ -1,15 +1,18 @@
 //! Measures parts of vale: `bench capture`, `bench pool`, `bench turn`, `bench line`, `bench batch`,
-//! `bench text`, `bench fabric`.
+//! `bench text`, `bench fabric`, `bench broadcast`, `bench jumbo`.
 //! Without a word each part runs small and prints counts alone.
 //! `bench asks FILE POOL` serves the asks of a file by a drive.
 #![tactic(auto)]
 
 mod asks;
 mod batch;
+mod broadcast;
 mod capture;
 mod fabric;
+mod jumbo;
 mod line;
 mod look;
+mod memory;
 mod pool;
 mod text;
 mod threads;
@@ -31,6 +34,8 @@ fn main(rt: HostRuntime) -> Result<()> {
             "batch" => batch::run(&rt, rt.alloc(), true)?,
             "text" => text::run(&rt, rt.alloc(), true)?,
             "fabric" => Shared::Fabric.run(&rt, rt.alloc(), true)?,
+            "broadcast" => broadcast::run(&rt, rt.alloc(), true)?,
+            "jumbo" => jumbo::run(&rt, rt.alloc(), true)?,
             "asks" => {
                 let mut said = env::args(&rt)?.skip(2);
                 return asks::run(&rt, rt.alloc(), said.next(), said.next());
@@ -46,6 +51,8 @@ fn main(rt: HostRuntime) -> Result<()> {
         batch::run(&rt, rt.alloc(), false)?;
         text::run(&rt, rt.alloc(), false)?;
         Shared::Fabric.run(&rt, rt.alloc(), false)?;
+        broadcast::run(&rt, rt.alloc(), false)?;
+        jumbo::run(&rt, rt.alloc(), false)?;
     }
     Ok(())
 }

@@ -9,6 +9,7 @@ use Rattle.std.proofs.lemmas.Bool.Decides.{nat_tests}
 use Rattle.nm_types.specs.declared.id.PortId.{PortId}
 use Rattle.nm_types.specs.declared.place.Place.{Place}
 use Rattle.nm_types.specs.declared.place.Place.TheVariants.{Tx, Rx, Extra}
+use Rattle.nm_types.specs.Limits.{most_extra}
 use Rattle.nm_types.specs.SyncChecks.{contains_index}
 use Rattle.std.specs.List.{AllByRecursion}
 use Rattle.std.proofs.Common.{get_or, replicate}
@@ -137,14 +138,14 @@ pub none_counts : (o : Option ℕ) → is_some o ≡ false → length (option_to
 none_counts None e = refl
 none_counts (Some x) e = cc
 
-few_by : (ports : List PortPlaces) (port : ℕ) → AllByRecursion (λ (p : PortPlaces). AreSizes p.sizes) ports → extra_of ports port ≤ 1024
+few_by : (ports : List PortPlaces) (port : ℕ) → AllByRecursion (λ (p : PortPlaces). AreSizes p.sizes) ports → extra_of ports port ≤ most_extra
 few_by [] port all = omega arith
 few_by (p ∷ ports) port all = elim (cases_Bool (nat_eq p.port.0 port)) [
   | inl same ↦ rw same all.0.extra
   | inr differs ↦ rw differs (few_by ports port all.1)
 ]
 
-pub position-below : (h : HoldState) (port : PortId) (idx at : ℕ) → IsHold h → position_at h port idx ≡ Some at → at < 1024
+pub position-below : (h : HoldState) (port : PortId) (idx at : ℕ) → IsHold h → position_at h port idx ≡ Some at → at < most_extra
 position-below h port idx at hold e =
     let few = few_by h.ports port.0 (recursion_from_All (λ (p : PortPlaces). AreSizes p.sizes) h.ports hold.sizes) in
     let stands = position-some h port idx at hold e in

@@ -18,13 +18,13 @@ seen-count (suc turns) extras link seen at = elim (cases_Bool (nat_eq at 0 || (n
 pub found_and_astray_are_all : FoundAndAstrayAreAll
 found_and_astray_are_all extras link head = omega (arith, seen-count (length extras) extras link [] head)
 
-bytes_again : (n : ℕ) → n < 2 ^ 32 → n % 256 + 256 * (n / 256 % 256) + 65536 * (n / 65536 % 256) + 16777216 * (n / 16777216) ≡ n
+bytes_again : (n : ℕ) → n < 2 ^ 32 → n % 256 + 256 * (n / 256 % 256) + 256 ^ 2 * (n / 256 ^ 2 % 256) + 256 ^ 3 * (n / 256 ^ 3) ≡ n
 bytes_again n h =
     let two = div-div-eq-div-mul n 256 256 in
-    let three = div-div-eq-div-mul n 65536 256 in
+    let three = div-div-eq-div-mul n (256 ^ 2) 256 in
     let a : n ≡ 256 * (n / 256) + n % 256 = omega arith in
     let b : n / 256 ≡ 256 * (n / 256 / 256) + n / 256 % 256 = omega arith in
-    let c : n / 65536 ≡ 256 * (n / 65536 / 256) + n / 65536 % 256 = omega arith in
+    let c : n / 256 ^ 2 ≡ 256 * (n / 256 ^ 2 / 256) + n / 256 ^ 2 % 256 = omega arith in
     omega (arith, two, three)
 
 pub links_are_read_again : LinksAreReadAgain

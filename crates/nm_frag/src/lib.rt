@@ -5,4 +5,5 @@
 mod cuts;
 pub mod laws;
 
-pub use cuts::{MAX_FRAME_BYTES, part, slots};
+pub use cuts::part;
+pub use nm_types::{MAX_FRAME_BYTES, slots};

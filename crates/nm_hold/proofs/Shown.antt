@@ -1,11 +1,12 @@
 -- What a hold shows of its cells and tables.
-use Rattle.std.proofs.Common.{Bool, filter, not, ℕ, zero, suc, ◌≡◌, ◌<◌, ◌≤◌, true, false, nat_eq, List, [], ◌∷◌, ◌++◌, length, find, Option, Some, None, inl, inr, refl, sym, ◌∙◌, ap, arith}
+use Rattle.std.proofs.Common.{Bool, filter, not, ℕ, zero, suc, ◌≡◌, ◌+◌, ◌<◌, ◌≤◌, true, false, nat_eq, List, [], ◌∷◌, ◌++◌, length, find, Option, Some, None, inl, inr, refl, sym, ◌∙◌, ap, arith}
 use Rattle.std.specs.Prelude.{All, ◌||◌, is_some, IsSome, option_map}
 use Rattle.std.specs.List.{AllByRecursion}
 use Rattle.std.specs.Option.{option_map_or}
 use Rattle.std.proofs.lemmas.Bool.{cases_Bool, or_parts}
 use Rattle.std.proofs.lemmas.List.Elements.{All-from_recursion, recursion_from_All}
 use Rattle.std.proofs.lemmas.Bool.Decides.{nat_tests}
+use Rattle.nm_types.specs.Limits.{most_pool}
 use Rattle.nm_types.specs.declared.id.PortId.{PortId}
 use Rattle.nm_types.specs.declared.place.Place.TheVariants.{Extra}
 use Rattle.nm_hold.proofs.Spots.{nat_eq-is, extra_stands}
@@ -40,7 +41,7 @@ sizes-tables : (tables : List PortTable) → AllByRecursion IsTable tables → A
 sizes-tables [] all = tt
 sizes-tables (t ∷ tables) all = (all.0.sizes, sizes-tables tables all.1)
 
-pub IsHold-stored : (cells : List (Option Standing)) (tables : List PortTable) → 3 ≤ length cells → length cells ≤ 65538 → All IsTable tables → ArePortsOnce (ports_of tables) → IsTied cells tables
+pub IsHold-stored : (cells : List (Option Standing)) (tables : List PortTable) → 3 ≤ length cells → length cells ≤ most_pool + 2 → All IsTable tables → ArePortsOnce (ports_of tables) → IsTied cells tables
     → IsHold (record { cells = cells; ports = ports_of tables })
 IsHold-stored cells tables low high all once tied = record {
   once = once;

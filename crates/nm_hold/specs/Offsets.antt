@@ -1,6 +1,7 @@
 -- Where a place stands among the places of its port.
 use Rattle.std.specs.Prelude.{ℕ, ◌≡◌, Bool, ◌&&◌, ◌||◌, false, ◌==◌, nat_lt, ◌+◌, ◌≤◌, if◌then◌else◌, List, [], ◌∷◌, Option, Some, None, is_some}
 use Rattle.std.specs.List.{list_any}
+use Rattle.nm_types.specs.Limits.{most_extra, most_ring}
 use Rattle.nm_types.specs.declared.place.Place.{Place}
 use Rattle.nm_types.specs.declared.place.Place.TheVariants.{Tx, Rx, Extra}
 use Rattle.nm_types.specs.declared.id.PortSizes.{PortSizes}
@@ -11,9 +12,9 @@ count_of sizes = sizes.tx + sizes.rx + sizes.extra
 
 -- no size is above the greatest of a ring, or of a port's extra buffers
 pub record AreSizes (sizes : PortSizes) : Type 0 where
-  pub tx : sizes.tx ≤ 1024
-  pub rx : sizes.rx ≤ 1024
-  pub extra : sizes.extra ≤ 1024
+  pub tx : sizes.tx ≤ most_ring
+  pub rx : sizes.rx ≤ most_ring
+  pub extra : sizes.extra ≤ most_extra
 
 abbrev pub offset_of : PortPlaces → Place → Option ℕ
 offset_of p (Tx port slot) = if (port.0 == p.port.0) && nat_lt slot p.sizes.tx then Some slot else None

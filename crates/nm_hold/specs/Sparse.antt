@@ -2,6 +2,7 @@
 -- nothing stands, and else one more than the position of what stands there.
 use Rattle.std.specs.Prelude.{ℕ, zero, suc, ◌≡◌, ◌<◌, ◌≤◌, ◌+◌, ◌==◌, List, length, map, count_by, slice_index, slice_get, Option, None}
 use Rattle.std.specs.Vec.{vec_capacity}
+use Rattle.nm_types.specs.Limits.{most_pool}
 use Rattle.nm_hold.specs.declared.standing.Standing.{Standing}
 use Rattle.nm_hold.specs.declared.cells.Owned.{Owned}
 use Rattle.nm_hold.specs.declared.cells.Cells.TheInside.{Inside}
@@ -34,5 +35,5 @@ owners_in held = map (λ (o : Owned). o.index) held
 
 pub record IsSparse (c : Inside) : Type 0 where
   pub owners : AreOwners c.at (owners_in c.held.items)
-  pub few : length c.at ≤ 65538
+  pub few : length c.at ≤ most_pool + 2
   pub space : length c.at ≤ vec_capacity c.held

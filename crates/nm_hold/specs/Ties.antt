@@ -1,5 +1,6 @@
 -- How a hold is kept in memory: the cells and the tables of places tell the same.
-use Rattle.std.specs.Prelude.{ℕ, true, ◌≡◌, ◌<◌, ◌≤◌, All, List, length, replicate, Option, Some}
+use Rattle.std.specs.Prelude.{ℕ, true, ◌≡◌, ◌+◌, ◌<◌, ◌≤◌, All, List, length, replicate, Option, Some}
+use Rattle.nm_types.specs.Limits.{most_pool}
 use Rattle.nm_types.specs.declared.place.Place.{Place}
 use Rattle.nm_hold.specs.declared.standing.Standing.{Standing}
 use Rattle.nm_hold.specs.declared.table.PortTable.{PortTable}
@@ -20,7 +21,7 @@ pub record IsTied (cells : List (Option Standing)) (tables : List PortTable) : T
 -- the cells and tables of one hold
 pub record AreHeld (cells : List (Option Standing)) (all : List PortTable) : Type 0 where
   pub low : 3 ≤ length cells
-  pub high : length cells ≤ 65538
+  pub high : length cells ≤ most_pool + 2
   pub tables : All IsTable all
   pub once : ArePortsOnce (ports_of all)
   pub tied : IsTied cells all

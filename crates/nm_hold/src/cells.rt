@@ -1,6 +1,7 @@
 ghost use Rattle.std.specs.Prelude.{ℕ, ◌≡◌, ◌<◌, ◌≤◌, IfOk, IsSome, length, None, replicate, slice_set};
 ghost use Rattle.std.specs.Prelude.{Some, ◌≢◌, ◌+◌, ◌-◌, ◌↔◌, IsTrue, slice_index_or};
 ghost use Rattle.std.specs.Vec.{vec_len, vec_capacity};
+ghost use Rattle.nm_types.specs.Limits.{most_pool};
 ghost use Rattle.nm_hold.specs.declared.cells.Owned.{Owned};
 ghost use Rattle.std.specs.Borrow.{sem};
 ghost use Rattle.std.specs.Option.{option_copied};
@@ -77,7 +78,7 @@ impl Cells {
 
     /// Nothing at each of so many indices.
     pub(crate) fn new(alloc: Global, count: usize) -> Result<Cells, AllocError>
-        requires { count ≤ 65538 }
+        requires { count ≤ most_pool + 2 }
         ensures { IfOk result (λ cells. cells ≡ replicate count None) }
     {
         Ok(Cells {

@@ -4,6 +4,7 @@ ghost use Rattle.std.specs.Prelude.{List, ◌<◌, ◌+◌, find, length, option
 ghost use Rattle.std.specs.Borrow.{sem};
 ghost use Rattle.std.specs.Vec.{vec_capacity};
 ghost use Rattle.std.specs.Option.{option_copied, option_copied_mut};
+ghost use Rattle.nm_types.specs.Limits.{most_ring};
 ghost use Rattle.nm_types.specs.Buffers.{IsPoolSize, IsBufferIndex};
 ghost use Rattle.nm_types.specs.declared.place.Place.{Place};
 ghost use Rattle.nm_types.specs.Places.{is_same_place};
@@ -394,7 +395,7 @@ impl Hold {
     /// Makes the buffers in `count` transmit slots of a port, from the first one on and going round
     /// at `size`, named ones, or ones that are not named.
     pub fn name_slots(&mut self, port: PortId, size: u32, first: u32, count: u32, named: bool)
-        requires size { size ≤ 1024 }
+        requires size { size ≤ most_ring }
         requires first { first < size }
         requires count { count ≤ size }
         requires held { (at : ℕ) → at < size → IsSome (index_at self.old (Tx port at)) }
@@ -413,7 +414,7 @@ impl Hold {
 
     /// Takes the buffers out of the first `count` slots of a run, in their order.
     pub fn take_slots(&mut self, run: SlotRun, count: u32, back: &mut Vec<Buf>)
-        requires size { run.size ≤ 1024 }
+        requires size { run.size ≤ most_ring }
         requires first { run.first < run.size }
         requires count { count ≤ run.size }
         requires held { (k : ℕ) → k < count → IsSome (index_at self.old (place_in run k)) }

@@ -4,6 +4,7 @@ ghost use Rattle.std.specs.Prelude.{ℕ, Some};
 ghost use Rattle.std.specs.HashMap.{get};
 ghost use Rattle.std.specs.Vec.{vec_capacity, with_item};
 ghost use Rattle.std.specs.Option.{option_copied};
+ghost use Rattle.nm_types.specs.Limits.{most_ring};
 ghost use Rattle.nm_types.specs.declared.place.Place.TheVariants.{Rx};
 ghost use Rattle.nm_hold.specs.declared.table.PortTable.{PortTable};
 ghost use Rattle.nm_hold.specs.Offsets.{has_place, has_port, ArePortsOnce};
@@ -154,7 +155,7 @@ impl Ports {
         back: &mut Vec<Buf>,
     )
         requires whole { AreHeld cells.old self.old.tables }
-        requires size { run.size ≤ 1024 }
+        requires size { run.size ≤ most_ring }
         requires first { run.first < run.size }
         requires count { count ≤ run.size }
         requires held { (k : ℕ) → k < count → 0 < number_at self.old.tables (place_in run k) }

@@ -1,4 +1,5 @@
 ghost use Rattle.std.specs.Prelude.{ℕ, ◌≡◌, ◌<◌, ◌≤◌, IsSome, slice_index_or};
+ghost use Rattle.nm_types.specs.Limits.{most_ring};
 ghost use Rattle.nm_types.specs.Positions.{slots_from};
 ghost use Rattle.nm_hold.specs.Holds.{cell_at};
 ghost use Rattle.nm_hold.specs.Renames.{cells_renamed};
@@ -26,7 +27,7 @@ pub(crate) fn name_cells(
     count: u32,
     named: bool,
 )
-    requires size { size ≤ 1024 }
+    requires size { size ≤ most_ring }
     requires first { first < size }
     requires count { count ≤ size }
     requires stands { (at : ℕ) → at < size

@@ -3,6 +3,7 @@ ghost use Rattle.std.specs.Prelude.{option_map, slice_index};
 ghost use Rattle.std.specs.Option.{option_map_or};
 ghost use Rattle.std.specs.HashMap.{get};
 ghost use Rattle.std.specs.Vec.{vec_capacity, with_item};
+ghost use Rattle.nm_types.specs.Limits.{most_ring};
 ghost use Rattle.nm_types.specs.Positions.{step_on};
 ghost use Rattle.nm_hold.specs.Indexed.{tables_present, IsIndexed};
 ghost use Rattle.nm_hold.specs.declared.table.PortTable.{PortTable};
@@ -31,7 +32,7 @@ pub struct SlotRun {
 impl SlotRun {
     /// The slot so many steps behind the first one.
     fn slot(self, steps: u32) -> usize
-        requires size { self.size ≤ 1024 }
+        requires size { self.size ≤ most_ring }
         requires first { self.first < self.size }
         requires steps { steps ≤ self.size }
         ensures { result ≡ step_on self.size self.first steps }
@@ -80,7 +81,7 @@ pub(crate) fn take_run(
 )
     requires indexed { IsIndexed rows.old (get nat_eq indices.now) }
     requires whole { AreHeld cells.old (tables_present rows.old) }
-    requires size { run.size ≤ 1024 }
+    requires size { run.size ≤ most_ring }
     requires first { run.first < run.size }
     requires count { count ≤ run.size }
     requires held { (k : ℕ) → k < count

@@ -11,6 +11,7 @@ use Rattle.std.proofs.lemmas.List.FromFn.{length-range_with_len}
 use Rattle.std.proofs.lemmas.List.Elements.{recursion_from_All}
 use Rattle.std.proofs.lemmas.List.Folds.{list_any-append}
 use Rattle.std.proofs.lemmas.Option.{same_Some}
+use Rattle.nm_types.specs.Limits.{most_extra}
 use Rattle.nm_types.specs.declared.id.PortId.{PortId}
 use Rattle.nm_types.specs.declared.id.Side.{Side}
 use Rattle.nm_types.specs.declared.id.Side.TheVariants as side
@@ -494,14 +495,14 @@ module _ (h : HoldState) (ports : List UserPort) (id : PortId) (p : UserPort) (h
           rw (count_left, seen_left ports, bytes) refl
 
 -- a port has few extra buffers
-sizes_small : (ports : List UserPort) (id : ℕ) (p : UserPort) → port_at ports id ≡ Some p → AllByRecursion (λ (x : PortPlaces). AreSizes x.sizes) (map places_of_port ports) → p.extra ≤ 1024
+sizes_small : (ports : List UserPort) (id : ℕ) (p : UserPort) → port_at ports id ≡ Some p → AllByRecursion (λ (x : PortPlaces). AreSizes x.sizes) (map places_of_port ports) → p.extra ≤ most_extra
 sizes_small [] id p found small = absurd cc
 sizes_small (x ∷ ports) id p found small = elim (cases_Bool (nat_eq x.id.0 id)) [
   | inl here ↦ (let is : x ≡ p = same_Some x p (rw here at found) in rw (← is) small.0.extra)
   | inr other ↦ sizes_small ports id p (rw other at found) small.1
 ]
 
-pub extra_small : (h : HoldState) (ports : List UserPort) (id : PortId) (p : UserPort) → Has h ports id p → p.extra ≤ 1024
+pub extra_small : (h : HoldState) (ports : List UserPort) (id : PortId) (p : UserPort) → Has h ports id p → p.extra ≤ most_extra
 extra_small h ports id p has = sizes_small ports id.0 p has.found (rw (← has.places) (recursion_from_All (λ (x : PortPlaces). AreSizes x.sizes) h.ports has.is_hold.sizes))
 
 pub buffers_count : (h : HoldState) (ports : List UserPort) (id : PortId) (p : UserPort) → Has h ports id p → place_count p ≡ length (buffers_with_id (own_seen h ports) id.0)

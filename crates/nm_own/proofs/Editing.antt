@@ -9,9 +9,9 @@ use Rattle.nm_types.specs.Slots.{SlotState}
 use Rattle.nm_types.specs.OwnPorts.{OwnState, with_slot, with_port, with_ring_on}
 use Rattle.nm_hold.specs.Holds.{HoldState}
 use Rattle.nm_own.specs.declared.edit.RingEdit.{RingEdit}
-use Rattle.nm_own.specs.declared.edit.RingEdit.TheVariants.{Head, Cur, Positions, AllBack, Slot, Forward, Frame}
+use Rattle.nm_own.specs.declared.edit.RingEdit.TheVariants.{Head, Cur, Positions, AllBack, Slot, Forward, Part, Frame}
 use Rattle.nm_port.specs.declared.port.UserPort.{UserPort}
-use Rattle.nm_port.specs.RingSlots.{RingSlots, with_held, at_positions, with_slot_of_user, slot_at, with_slot_at, both_stepped, head_stepped, slot_framed}
+use Rattle.nm_port.specs.RingSlots.{RingSlots, with_held, at_positions, with_slot_of_user, slot_at, with_slot_at, both_stepped, head_stepped, slot_framed, slot_going_on}
 use Rattle.nm_port.specs.Own.{named_ring_places, held_on, ring_seen, own_seen, AreSided, AreRings}
 use Rattle.nm_own.proofs.Changing.{Keeps, SameUse, seen_changed}
 use Rattle.nm_own.specs.Edits.{edited, port_edited_if, own_edited, ring_edit}
@@ -31,6 +31,7 @@ side_edited (Cur cur) r = refl
 side_edited (Positions head cur) r = refl
 side_edited AllBack r = refl
 side_edited (Forward slot) r = refl
+side_edited (Part len) r = refl
 side_edited (Frame len) r = refl
 side_edited (Slot at slot) r = elim (cases_Bool (is_user_slot r.ring at)) [
   | inl user ↦ rw user refl
@@ -53,6 +54,9 @@ ring_seen_edited h id side (Forward slot) r e =
     let head = step_on r.ring.size r.ring.head 1 in
     let cur = step_on r.ring.size r.ring.cur 1 in
     rw (← e) (ap (λ (held : List ℕ). with_held held (both_stepped (with_slot_at r.ring.head slot r))) (held_same h id r.side head cur r.ring))
+ring_seen_edited h id side (Part len) r e =
+    let head = step_on r.ring.size r.ring.head 1 in
+    rw (← e) (ap (λ (held : List ℕ). with_held held (head_stepped (with_slot_at r.ring.head (slot_going_on len (slot_at r r.ring.head)) r))) (held_same h id r.side head head r.ring))
 ring_seen_edited h id side (Frame len) r e =
     let head = step_on r.ring.size r.ring.head 1 in
     rw (← e) (ap (λ (held : List ℕ). with_held held (head_stepped (with_slot_at r.ring.head (slot_framed len (slot_at r r.ring.head)) r))) (held_same h id r.side head head r.ring))
@@ -64,6 +68,7 @@ own_is id side (Positions head cur) s = refl
 own_is id side AllBack s = refl
 own_is id side (Slot at slot) s = refl
 own_is id side (Forward slot) s = refl
+own_is id side (Part len) s = refl
 own_is id side (Frame len) s = refl
 
 -- what is kept of the fields
@@ -73,6 +78,7 @@ places_edited id (Cur cur) r = refl
 places_edited id (Positions head cur) r = refl
 places_edited id AllBack r = refl
 places_edited id (Forward slot) r = refl
+places_edited id (Part len) r = refl
 places_edited id (Frame len) r = refl
 places_edited id (Slot at slot) r = elim (cases_Bool (is_user_slot r.ring at)) [
   | inl user ↦ rw user refl
@@ -85,6 +91,7 @@ same_use (Cur cur) r = record { size = refl; accepted = refl; last = refl }
 same_use (Positions head cur) r = record { size = refl; accepted = refl; last = refl }
 same_use AllBack r = record { size = refl; accepted = refl; last = refl }
 same_use (Forward slot) r = record { size = refl; accepted = refl; last = refl }
+same_use (Part len) r = record { size = refl; accepted = refl; last = refl }
 same_use (Frame len) r = record { size = refl; accepted = refl; last = refl }
 same_use (Slot at slot) r = elim (cases_Bool (is_user_slot r.ring at)) [
   | inl user ↦ rw user (record { size = refl; accepted = refl; last = refl })
@@ -97,6 +104,7 @@ is_ring_edited (Cur cur) r is = record { is_size = is.is_size; accepted = is.acc
 is_ring_edited (Positions head cur) r is = record { is_size = is.is_size; accepted = is.accepted; within = is.within; one_tail = is.one_tail }
 is_ring_edited AllBack r is = record { is_size = is.is_size; accepted = is.accepted; within = is.within; one_tail = is.one_tail }
 is_ring_edited (Forward slot) r is = record { is_size = is.is_size; accepted = is.accepted; within = is.within; one_tail = is.one_tail }
+is_ring_edited (Part len) r is = record { is_size = is.is_size; accepted = is.accepted; within = is.within; one_tail = is.one_tail }
 is_ring_edited (Frame len) r is = record { is_size = is.is_size; accepted = is.accepted; within = is.within; one_tail = is.one_tail }
 is_ring_edited (Slot at slot) r is = elim (cases_Bool (is_user_slot r.ring at)) [
   | inl user ↦ rw user is

@@ -4,6 +4,7 @@ use Rattle.std.specs.Prelude.{is_some, IsSome}
 use Rattle.std.proofs.lemmas.List.{length-map}
 use Rattle.std.proofs.lemmas.Bool.Decides.{nat_tests}
 use Rattle.std.proofs.lemmas.Option.{same_Some}
+use Rattle.nm_types.specs.Limits.{most_ring}
 use Rattle.nm_types.specs.declared.id.PortId.{PortId}
 use Rattle.nm_types.specs.declared.id.Side.{Side}
 use Rattle.nm_types.specs.declared.id.Side.TheVariants.{Tx, Rx}
@@ -126,8 +127,8 @@ pub record IsLentRing (side : Side) (l : LentSide) (r : RingSlots) (lent : List 
   pub fits : FitsRing r.ring r.ring.head r.ring.cur
   pub within : first_lent side r < r.ring.size
   pub few_slots : length lent < r.ring.size
-  pub few : length lent ≤ 1024
-  pub few_replaced : length l.replaced.items ≤ 1024
+  pub few : length lent ≤ most_ring
+  pub few_replaced : length l.replaced.items ≤ most_ring
 
 pub lent_ring : (side : Side) (id : PortId) (l : LentSide) (r : RingSlots) (s : SideState) (lent : List Buffer) → LentWith side id l r s lent → IsLentRing side l r lent
 lent_ring side id l r s lent w =

@@ -4,7 +4,8 @@ pub mod Editing
 pub mod Resetting
 pub mod KeptPorts
 pub mod Changing
-pub mod Forwarding
+pub mod FramesForwarded
+pub mod FramesPut
 pub mod Filled
 pub mod Written
 pub mod Opening
@@ -34,6 +35,7 @@ pub mod TakenLent
 pub mod PortNames
 pub mod SlotsLent
 pub mod SlotsAhead
+pub mod RingTests
 pub mod WrittenCopies
 pub mod PutCopies
 pub mod PortPlaces

@@ -1,13 +1,15 @@
 -- What a put offers, and what a receive sync gives back, over what is seen.
-use Rattle.std.proofs.Common.{ℕ, ◌≡◌, List, [], ◌∷◌, ◌++◌, map, Some, refl, sym, ◌∙◌, ap}
+use Rattle.std.proofs.Common.{ℕ, ◌≡◌, List, [], ◌∷◌, ◌++◌, length, map, Some, refl, sym, ◌∙◌, ap}
+use Rattle.std.proofs.lemmas.List.{length-map}
 use Rattle.std.proofs.lemmas.Option.{same_Some}
 use Rattle.nm_types.specs.declared.id.PortId.{PortId}
 use Rattle.nm_types.specs.declared.id.Side.TheVariants.{Tx, Rx}
-use Rattle.nm_types.specs.Positions.{IsRing, pending_slots, pushed_slots}
+use Rattle.nm_types.specs.Positions.{IsRing, dist, pending_slots, pushed_slots}
 use Rattle.nm_types.specs.Frames.{Frame}
 use Rattle.nm_types.specs.Slots.{SlotState, pushed_frames, pushed_names}
-use Rattle.nm_types.specs.OwnPorts.{bytes_at, pushed_on, slot_in}
+use Rattle.nm_types.specs.OwnPorts.{bytes_at, pushed_at, pushed_on, slot_in}
 use Rattle.nm_types.specs.OwnSyncs.{back_on}
+use Rattle.nm_types.proofs.RingSteps.{length-slots_from}
 use Rattle.nm_hold.specs.Holds.{HoldState}
 use Rattle.nm_port.specs.declared.port.UserPort.{UserPort}
 use Rattle.nm_port.specs.RingSlots.{RingSlots, slot_at}
@@ -59,3 +61,10 @@ back_is_seen h ports id r sided is =
 pub frames_pushed : (h : HoldState) (ports : List UserPort) (id : PortId) (r : RingSlots) → AreSided ports → IsFittingRing ports id.0 Tx r
     → frames_seen h r ≡ pushed_frames (bytes_at (own_seen h ports)) (pushed_on Tx id.0 (own_seen h ports))
 frames_pushed h ports id r sided is = frames_are_seen h ports id r sided is.ring is.at is.fits
+
+-- how many slots are pushed there
+pub pushed_length : (h : HoldState) (ports : List UserPort) (id : PortId) (r : RingSlots) → slots_at Tx ports id.0 ≡ Some r → dist r.ring.size r.ring.accepted_head r.ring.head ≡ length (pushed_on Tx id.0 (own_seen h ports))
+pushed_length h ports id r at =
+    let seen = ring_seen h id r in
+    let count = length-map (pushed_slots r.ring r.ring.head) (pushed_at Tx seen) in
+    rw (ring_found h ports Tx id r at) (sym (count ∙ length-slots_from r.ring.size r.ring.accepted_head (dist r.ring.size r.ring.accepted_head r.ring.head)))

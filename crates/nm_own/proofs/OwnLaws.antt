@@ -1,16 +1,17 @@
 -- The frames of a receive sync come one after another.
-use Rattle.std.proofs.Common.{ℕ, ◌≡◌, ◌<◌, ◌≤◌, ◌+◌, ◌-◌, ◌||◌, true, false, nat_eq, nat_lt, nat_le, List, [], ◌∷◌, ◌++◌, length, map, fold, drop, Option, Some, None, option_map, inl, inr, refl, sym, ◌∙◌, ap, arith, append_assoc, length-append}
+use Rattle.std.proofs.Common.{ℕ, ◌≡◌, ◌<◌, ◌≤◌, ◌+◌, ◌-◌, ◌||◌, true, false, nat_eq, nat_lt, nat_le, List, [], ◌∷◌, ◌++◌, length, map, fold, drop, Option, Some, None, option_map, inl, inr, refl, sym, ◌∙◌, ap, subst, arith, append_assoc, length-append}
 use Rattle.std.specs.Prelude.{option_and_then}
 use Rattle.std.specs.Option.{option_map_or}
 use Rattle.std.proofs.lemmas.Bool.{cases_Bool}
 use Rattle.std.proofs.lemmas.Bool.Decides.{nat_tests}
 use Rattle.std.proofs.lemmas.List.{map-append}
 use Rattle.std.proofs.lemmas.List.Sums.{fold-append}
+use Rattle.std.proofs.lemmas.Option.{same_Some}
 use Rattle.nm_types.specs.declared.id.Side.TheVariants.{Rx}
 use Rattle.nm_types.specs.Positions.{RingState, IsRing, FitsRing, dist, step_on, kernel_count}
 use Rattle.nm_types.specs.Slots.{Pushed, SlotState}
 use Rattle.nm_types.specs.SyncChecks.{is_beyond}
-use Rattle.nm_types.specs.OwnPorts.{OwnRing, OwnPort, OwnState, Arrival, ring_at, port_if, with_ring_on, pushed_count, pushed_on, pushed_in, named_of, refusal_in}
+use Rattle.nm_types.specs.OwnPorts.{OwnRing, OwnPort, OwnState, Arrival, ring_at, ring_on, port_with_id, port_if, with_ring_on, pushed_count, pushed_on, pushed_in, named_of, is_whole, refusal_in, refusal_at}
 use Rattle.nm_types.specs.OwnSyncs.{accepted, port_swapped, buffer_on, after_slot, after_exchange, published, buffers_of_arrivals, with_arrival, without_bytes_of, back_on, ring_after_receive, own_after_receive}
 use Rattle.nm_types.proofs.RingSteps.{dist-below, dist-add, dist_self, step_on-step_on}
 use Rattle.nm_types.proofs.Tests.{less_true, same_true}
@@ -103,9 +104,18 @@ free_after ring n is fits few =
     let cur = not_beyond size ring.head (step_on size ring.last_tail n) ring.cur fits.cur_within (omega (arith, farther, fits.cur_reach)) in
     rw (head, cur, same_true ring.head ring.head refl, less_true (dist size ring.head (step_on size ring.last_tail n)) (size - 1) (omega (arith, farther, few))) refl
 
+passed_fits : (id : ℕ) (s : OwnState) (r : OwnRing) → ring_at Rx s id ≡ Some r → refusal_at Rx id s ≡ None → FitsRing r.ring r.ring.head r.ring.cur
+passed_fits id s r at passes = by (port_with_id s id) at passes
+  where
+    by : (o : Option OwnPort) → option_and_then (ring_on Rx) o ≡ Some r → option_and_then (λ (p : OwnPort). option_and_then (refusal_in Rx s p) (ring_on Rx p)) o ≡ None → FitsRing r.ring r.ring.head r.ring.cur
+    by None at passes = absurd cc
+    by (Some p) at passes =
+        let same : p.rx ≡ r = same_Some p.rx r at in
+        subst (λ (t : OwnRing). FitsRing t.ring t.ring.head t.ring.cur) same (passed_positions_fit Rx (is_whole p) s.pool (named_of s) p.rx.ring (pushed_in Rx p.rx) passes)
+
 pub room_for_frames : RoomForFrames
 room_for_frames id came s r at is passes few =
-    let fits : FitsRing r.ring r.ring.head r.ring.cur = passed_positions_fit Rx s.pool (named_of s) r.ring (pushed_in Rx r) (sym (ap (option_and_then (refusal_in Rx s)) at) ∙ passes) in
+    let fits = passed_fits id s r at passes in
     let positions : positions_in id (own_after_receive id came s).ports ≡ Some (accepted (length came) r.ring) =
     received_positions id came (after_exchange Rx id s).ports
     ∙ ap (option_map (accepted (length came))) (exchange_stays id (pushed_on Rx id s) s.ports ∙ ap (option_map (λ (t : OwnRing). t.ring)) at) in

@@ -1,5 +1,5 @@
 -- The own side of a push that passes the checks, and what its exchange asks.
-use Rattle.std.proofs.Common.{ℕ, zero, suc, ◌≡◌, ◌≢◌, ◌<◌, ◌≤◌, ◌+◌, true, nat_eq, List, ◌∷◌, [], ◌++◌, length, map, get_or, Option, Some, None, refl, sym, ◌∙◌, ap, arith}
+use Rattle.std.proofs.Common.{ℕ, zero, suc, ◌≡◌, ◌≢◌, ◌<◌, ◌≤◌, ◌+◌, Bool, true, nat_eq, List, ◌∷◌, [], ◌++◌, length, map, get_or, Option, Some, None, refl, sym, ◌∙◌, ap, arith}
 use Rattle.std.specs.Prelude.{IsSome}
 use Rattle.std.specs.List.{IsDistinct, range_with_len}
 use Rattle.std.proofs.lemmas.List.{length-map}
@@ -10,8 +10,8 @@ use Rattle.nm_types.specs.declared.id.Side.TheVariants.{Tx, Rx}
 use Rattle.nm_types.specs.declared.place.Place.{Place}
 use Rattle.nm_types.specs.Positions.{IsRing, FitsRing, step_on, slots_from}
 use Rattle.nm_types.specs.Slots.{Pushed}
-use Rattle.nm_types.specs.SyncChecks.{contains_index, EachPasses}
-use Rattle.nm_types.specs.OwnPorts.{named_of, ring_at}
+use Rattle.nm_types.specs.SyncChecks.{contains_index, begun_after, EachPasses}
+use Rattle.nm_types.specs.OwnPorts.{named_of, ring_at, refusal_at}
 use Rattle.nm_types.proofs.RingSteps.{length-slots_from}
 use Rattle.nm_types.proofs.Tests.{false_true, same_true}
 use Rattle.nm_slot.proofs.CheckLaws.{passed_slots_pass, passed_names_once}
@@ -23,7 +23,7 @@ use Rattle.nm_port.specs.declared.port.UserPort.{UserPort}
 use Rattle.nm_own.specs.declared.own.OwnSide.TheInside.{Inside}
 use Rattle.nm_port.specs.RingSlots.{RingSlots}
 use Rattle.nm_port.specs.Sides.{place_on, name_at, names_pushed, pushed_seen, pushed_seen_at}
-use Rattle.nm_port.specs.Own.{own_seen, slots_on, slots_at, refusal_at, named_places, places_of_port, is_filled}
+use Rattle.nm_port.specs.Own.{own_seen, slots_on, slots_at, whole_at, named_places, places_of_port, is_filled}
 use Rattle.nm_port.specs.Regions.{SideState, side_seen}
 use Rattle.nm_own.specs.Kept.{IsKept}
 use Rattle.nm_own.specs.FittingRings.{IsFittingRing}
@@ -37,15 +37,15 @@ use Rattle.nm_port.proofs.Checked.{found, no_ring, side_found, refusal_is_seen, 
 use Rattle.nm_own.proofs.Offered.{rx_ring_found}
 
 -- what is asked of a ring whose push passes the checks
-each_named : (side : Side) (pool : ℕ) (named earlier : List ℕ) (f : ℕ → Pushed) (size first a n : ℕ) → EachPasses side pool named earlier (map f (map (step_on size first) (range_with_len a n)))
+each_named : (side : Side) (whole : Bool) (pool : ℕ) (named earlier : List ℕ) (begun : ℕ) (f : ℕ → Pushed) (size first a n : ℕ) → EachPasses side whole pool named earlier begun (map f (map (step_on size first) (range_with_len a n)))
     → (k : ℕ) → k < n → (contains_index named (f (step_on size first (a + k))).slot.buf_idx ≡ true) × (2 ≤ (f (step_on size first (a + k))).slot.buf_idx)
-each_named side pool named earlier f size first a zero passes k below = absurd (omega arith)
-each_named side pool named earlier f size first a (suc n) passes zero below =
+each_named side whole pool named earlier begun f size first a zero passes k below = absurd (omega arith)
+each_named side whole pool named earlier begun f size first a (suc n) passes zero below =
     let same : a ≡ a + 0 = omega arith in
     rw (← same) ((passes.0.held, passes.0.least))
-each_named side pool named earlier f size first a (suc n) passes (suc k) below =
+each_named side whole pool named earlier begun f size first a (suc n) passes (suc k) below =
     let same : a + 1 + k ≡ a + suc k = omega arith in
-    rw (← same) (each_named side pool named (earlier ++ (f (step_on size first a)).slot.buf_idx ∷ []) f size first (a + 1) n passes.1 k (omega arith))
+    rw (← same) (each_named side whole pool named (earlier ++ (f (step_on size first a)).slot.buf_idx ∷ []) (begun_after begun (f (step_on size first a)).slot) f size first (a + 1) n passes.1 k (omega arith))
 
 -- the own side of a push that passes
 pub record Passes (h : HoldState) (ports : List UserPort) (side : Side) (id : PortId) (p : UserPort) (r : RingSlots) : Type 0 where
@@ -86,13 +86,13 @@ module _ (h : HoldState) (ports : List UserPort) (side : Side) (id : PortId) (p 
           let same : q ≡ s.home.place = same_place-is q s.home.place (sym (ap (stands_at q) some) ∙ stands) in
           ap is_named_in some ∙ (x.has.flagged i s some ∙ (ap (is_among (named_places ports)) (sym same) ∙ among))
 
-  slots_pass : EachPasses r.side (buffers_of h) (named_of (own_seen h ports)) [] (pushed_seen h id r)
-  slots_pass = passed_slots_pass r.side (buffers_of h) (named_of (own_seen h ports)) r.ring (pushed_seen h id r) (sym (refusal_is_seen h ports side id r x.has.sided ring_is x.at) ∙ x.passes)
+  slots_pass : EachPasses r.side (whole_at ports id.0) (buffers_of h) (named_of (own_seen h ports)) [] 0 (pushed_seen h id r)
+  slots_pass = passed_slots_pass r.side (whole_at ports id.0) (buffers_of h) (named_of (own_seen h ports)) r.ring (pushed_seen h id r) (sym (refusal_is_seen h ports side id r x.has.sided ring_is x.at) ∙ x.passes)
 
   each : (k : ℕ) → k < pushed_count_of r → is_named_at h (name_at r (user_position r k)) ≡ true
   each k below =
       let named = named_of (own_seen h ports) in
-      let one = each_named r.side (buffers_of h) named [] (pushed_seen_at h id r) r.ring.size r.ring.accepted_head 0 (pushed_count_of r) slots_pass k below in
+      let one = each_named r.side (whole_at ports id.0) (buffers_of h) named [] 0 (pushed_seen_at h id r) r.ring.size r.ring.accepted_head 0 (pushed_count_of r) slots_pass k below in
       let first : 0 + k ≡ k = omega arith in
       let at = rw first at one in
       are_named h ports x.has.sided x.has.rings x.has.flagged x.has.is_hold (name_at r (user_position r k)) at.1 ∙ at.0
@@ -101,7 +101,7 @@ module _ (h : HoldState) (ports : List UserPort) (side : Side) (id : PortId) (p 
   names_once j k less below same =
       let names = names_pushed r in
       let named = named_of (own_seen h ports) in
-      let once : IsDistinct nat_eq names = rw (names-seen h id r) at (passed_names_once r.side (buffers_of h) named (pushed_seen h id r) slots_pass).distinct in
+      let once : IsDistinct nat_eq names = rw (names-seen h id r) at (passed_names_once r.side (whole_at ports id.0) (buffers_of h) named (pushed_seen h id r) slots_pass).distinct in
       let long : length names ≡ pushed_count_of r = length-map (slots_from r.ring.size r.ring.accepted_head (pushed_count_of r)) (name_at r) ∙ length-slots_from r.ring.size r.ring.accepted_head (pushed_count_of r) in
       let apart = apart_from_distinct nat_eq names j k 0 once less (omega (arith, long, below)) in
       let at : (i : ℕ) → i < pushed_count_of r → get_or names i 0 ≡ name_at r (user_position r i) = (λ i few. (let first : 0 + i ≡ i = omega arith in

@@ -73,7 +73,7 @@ room_is ring is free =
     let accepted : ring.accepted_head ≡ ring.head = nat_eq-is ring.accepted_head ring.head rest.0 in
     let few = less_is (dist ring.size ring.accepted_head ring.last_tail) (ring.size - 1) rest.1 in
     let same : dist ring.size ring.accepted_head ring.last_tail ≡ dist ring.size ring.head ring.last_tail = ap (λ (at : ℕ). dist ring.size at ring.last_tail) accepted in
-    (passed_positions_fit Rx 0 [] ring [] (rw none refl), accepted, omega arith)
+    (passed_positions_fit Rx false 0 [] ring [] (rw none refl), accepted, omega arith)
 
 room_of : (r : RingSlots) → r.side ≡ Rx → IsRing r.ring → has_free_slot r.ring ≡ true → HasRoom r
 room_of r side is free = let room = room_is r.ring is free in record { side = side; fits = room.0; accepted = room.1; free = room.2 }
@@ -171,10 +171,10 @@ module _ (h : HoldState) (ports : List UserPort) (id : PortId) (p : UserPort) (r
           map-id [] = refl
           map-id (y ∷ ys) = ap (λ (zs : List ℕ). y ∷ zs) (map-id ys)
 
-  module _ (new : HoldState) (buf : Buffer) (frame : List ℕ) (len : ℕ) (cleared : buf.bytes ≡ cleared_but frame) (short : len ≤ 2048) (long : length frame ≡ len) (index : IsBufferIndex (buffers_of h) buf.index)
+  module _ (new : HoldState) (buf : Buffer) (frame : List ℕ) (len rest : ℕ) (cleared : buf.bytes ≡ cleared_but frame) (short : len ≤ 2048) (long : length frame ≡ len) (index : IsBufferIndex (buffers_of h) buf.index)
       (cell : new ≡ with_cell h buf.index (Some (placed spot true buf))) (places : (q : Place) → index_at new q ≡ (if is_same_place spot q then Some buf.index else index_at h q)) (is_new : IsHold new) where
     abbrev moved : RingSlots
-    moved = ring_published buf.index len p.rx
+    moved = ring_published buf.index len rest p.rx
 
     abbrev pub with_frame : UserPort
     with_frame = with_rx p moved
@@ -255,7 +255,7 @@ module _ (h : HoldState) (ports : List UserPort) (id : PortId) (p : UserPort) (r
 
     -- how it is seen
     abbrev came : Arrival
-    came = record { buffer = buf.index; bytes = frame }
+    came = record { buffer = buf.index; bytes = frame; rest = rest }
 
     numbers_stay : (k : ℕ) → k < count → number_on new Rx p.id (step_on size first k) ≡ number_on h Rx p.id (step_on size first k)
     numbers_stay k below =

@@ -7,7 +7,8 @@ use Rattle.nm_types.specs.declared.id.PortId.{PortId}
 use Rattle.nm_types.specs.declared.id.Side.TheVariants.{Tx}
 use Rattle.nm_types.specs.Slots.{SlotState}
 use Rattle.nm_types.specs.OwnPorts.{OwnRing, OwnState, ring_at, with_ring}
-use Rattle.nm_types.specs.OwnEdits.{has_slot, has_room, with_written, with_frame}
+use Rattle.nm_types.specs.OwnEdits.{has_slots, has_room, with_written, with_frame}
+use Rattle.nm_types.specs.Parts.{slots_of_length}
 use Rattle.nm_hold.specs.Standings.{cell_fronted}
 use Rattle.nm_hold.specs.Offsets.{ArePortsOnce}
 use Rattle.nm_hold.specs.Holds.{HoldState, buffers_of, bufs_of, standing_at, with_cell, is_named_at, IsHold}
@@ -24,7 +25,7 @@ use Rattle.std.specs.Vec.{with_item}
 use Rattle.nm_own.specs.declared.own.OwnSide.TheInside.{Inside}
 use Rattle.nm_own.specs.Kept.{IsKept}
 use Rattle.nm_own.specs.Edits.{edited, ring_framed, port_edited_if}
-use Rattle.nm_own.specs.Acts.{head_slot_in}
+use Rattle.nm_own.specs.Acts.{has_slot, head_slot_in}
 use Rattle.nm_own.specs.Copies.{with_copies, FindRoom, AreCopies}
 use Rattle.nm_own.specs.CopiesIn.{ring_behind, named_at_head, IsFronted, AreWritten, ArePutOn}
 use Rattle.nm_own.specs.LentSlots.{index_of_port}
@@ -33,6 +34,7 @@ use Rattle.nm_own.proofs.Changing.{change_keeps}
 use Rattle.nm_own.proofs.Editing.{edits_keep, seen_edited}
 use Rattle.nm_own.proofs.OnePort.{changed_if}
 use Rattle.nm_own.proofs.SlotsLent.{first_changed, first_is}
+use Rattle.nm_own.proofs.RingTests.{rings_seen, room_short}
 use Rattle.nm_own.proofs.Written.{fronted_is_seen, not_written, fronted_keeps, flagged_kept, filled_kept, whole_kept, head_has, head_slot_seen}
 
 -- what holds of a hold and the ports with it
@@ -113,7 +115,7 @@ frame_seen count h new ports port r bytes sound few there has fronted =
     ap (head_slot_in Tx) (ring_found h ports Tx port r there) ∙ (sym (head_slot_seen h port Tx r (side_found ports Tx port r sound.sided there)) ∙ before) in
     seen_edited new id Tx (Frame (length bytes)) ports now.sided now.rings
     ∙ (ap (with_ring Tx id (ring_framed Tx (length bytes))) (seen_fronted count h new ports idx bytes sound few fronted)
-    ∙ sym (head_has (own_seen h ports) id bytes slot head))
+    ∙ sym (head_has (own_seen h ports) id bytes slot (rings_seen Tx h ports port sound.rings) few head))
 
 -- the ports, behind so many frames of a length
 abbrev ports_behind : ℕ → ℕ → ℕ → List UserPort → List UserPort
@@ -155,8 +157,9 @@ record AreBehind (size count : ℕ) (h new : HoldState) (ports : List UserPort) 
   regions : regions_in (bufs_of new) ≡ regions_in (bufs_of h)
   room : FindRoom count id bytes (own_seen h ports)
 
-has_room_there : (h : HoldState) (ports : List UserPort) (port : PortId) (r : RingSlots) → slots_at Tx ports port.0 ≡ Some r → has_room (own_seen h ports) port.0 ≡ head_has_slot r.ring
-has_room_there h ports port r there = ap (λ (o : Option OwnRing). option_map_or has_slot o false) (ring_found h ports Tx port r there)
+has_room_there : (h : HoldState) (ports : List UserPort) (port : PortId) (r : RingSlots) (bytes : List ℕ) → AreRings ports → length bytes ≤ 2048 → slots_at Tx ports port.0 ≡ Some r → has_room (own_seen h ports) port.0 bytes ≡ head_has_slot r.ring
+has_room_there h ports port r bytes rings few there =
+    room_short (own_seen h ports) port.0 bytes (rings_seen Tx h ports port rings) few ∙ ap (λ (o : Option OwnRing). option_map_or has_slot o false) (ring_found h ports Tx port r there)
 
 module _ (size : ℕ) (h : HoldState) (ports : List UserPort) (port : PortId) (r : RingSlots) (bytes : List ℕ) (sound : AreSound size h ports) (few : length bytes ≤ 2048) (there : slots_at Tx ports port.0 ≡ Some r) where
   written_so_often : (count : ℕ) (new : HoldState) → AreWritten count bytes r h new → AreBehind size count h new ports port.0 bytes
@@ -182,21 +185,21 @@ module _ (size : ℕ) (h : HoldState) (ports : List UserPort) (port : PortId) (r
         sound = subst (λ (ps : List UserPort). AreSound size new ps) more next;
         seen = ap (own_seen new) (sym more) ∙ (seen ∙ ap (with_frame id bytes) b.seen);
         regions = regions_same size was new now (named_at_head ring) bytes b.sound few fronted ∙ b.regions;
-        room = (b.room, ap (λ (s : OwnState). has_room s id) (sym b.seen) ∙ (has_room_there was now port ring here ∙ has));
+        room = (b.room, ap (λ (s : OwnState). has_room s id bytes) (sym b.seen) ∙ (has_room_there was now port ring bytes b.sound.rings few here ∙ has));
       }
 
-  full_behind : (count : ℕ) (new : HoldState) → AreWritten count bytes r h new → head_has_slot (ring_behind count (length bytes) r).ring ≡ false → has_room (with_copies count port.0 bytes (own_seen h ports)) port.0 ≡ false
+  full_behind : (count : ℕ) (new : HoldState) → AreWritten count bytes r h new → head_has_slot (ring_behind count (length bytes) r).ring ≡ false → has_room (with_copies count port.0 bytes (own_seen h ports)) port.0 bytes ≡ false
   full_behind count new written none =
       let b = written_so_often count new written in
-      ap (λ (s : OwnState). has_room s port.0) (sym b.seen)
-      ∙ (has_room_there new (ports_behind count (length bytes) port.0 ports) port (ring_behind count (length bytes) r) (ring_there count (length bytes) port.0 ports r there) ∙ none)
+      ap (λ (s : OwnState). has_room s port.0 bytes) (sym b.seen)
+      ∙ (has_room_there new (ports_behind count (length bytes) port.0 ports) port (ring_behind count (length bytes) r) bytes b.sound.rings few (ring_there count (length bytes) port.0 ports r there) ∙ none)
 
 -- where there is no ring there is no room
 no_copies : (wanted : ℕ) (h : HoldState) (ports : List UserPort) (id : ℕ) (bytes : List ℕ) → slots_at Tx ports id ≡ None → AreCopies wanted 0 id bytes (own_seen h ports)
 no_copies wanted h ports id bytes none = record {
   most = omega arith;
   room = tt;
-  full = λ more. ap (λ (o : Option OwnRing). option_map_or has_slot o false) (ring_not_found h ports Tx id none);
+  full = λ more. ap (λ (o : Option OwnRing). option_map_or (has_slots (slots_of_length (length bytes))) o false) (ring_not_found h ports Tx id none);
 }
 
 -- the port that is found at a place, and what is put into its ring

@@ -17,10 +17,10 @@ none_is : (o : Option RingFault) → is_none o ≡ true → o ≡ None
 none_is None e = refl
 none_is (Some x) e = absurd cc
 
-fits_is : (ring : RingState) → is_none (ring_refusal ring ring.head ring.cur) ≡ true → FitsRing ring ring.head ring.cur
+pub fits_is : (ring : RingState) → is_none (ring_refusal ring ring.head ring.cur) ≡ true → FitsRing ring ring.head ring.cur
 fits_is ring e =
     let none : ring_refusal ring ring.head ring.cur ≡ None = none_is (ring_refusal ring ring.head ring.cur) e in
-    passed_positions_fit Tx 0 [] ring [] (rw none refl)
+    passed_positions_fit Tx false 0 [] ring [] (rw none refl)
 
 refuses_none : (ring : RingState) → FitsRing ring ring.head ring.cur → is_none (ring_refusal ring ring.head ring.cur) ≡ true
 refuses_none ring fits =

@@ -3,6 +3,7 @@ use Rattle.std.proofs.Common.{ℕ, ◌≡◌, ◌<◌, ◌≤◌, ◌-◌, Bool,
 use Rattle.std.specs.Prelude.{IsSome}
 use Rattle.std.specs.List.{AllByRecursion, IsDistinct}
 use Rattle.std.proofs.lemmas.List.{length-map, length-reverse, length-drop, length-take-le, reverse-append, reverse-reverse, take-append-drop}
+use Rattle.nm_types.specs.Limits.{most_ring}
 use Rattle.nm_types.specs.declared.id.PortId.{PortId}
 use Rattle.nm_types.specs.declared.id.Side.TheVariants.{Tx}
 use Rattle.nm_types.specs.declared.place.Place.TheVariants as place
@@ -92,16 +93,16 @@ module _ (l : LentOffers) (r : RingSlots) (s : SideState) (lent : List Buffer) (
       let left : length rest ≡ length lent - count = ap (λ (bs : List Buffer). length bs) back ∙ length-drop count lent in
       omega (arith, left, w.lent_count, all)
 
-  most : size ≤ 1024
+  most : size ≤ most_ring
   most = (ring_is w.was l.lent.ports.items Tx l.port w.p r w.passes).is_size.1
 
-  pub few_back : length rest ≤ 1024
+  pub few_back : length rest ≤ most_ring
   few_back = let least = few_rest in let top = most in omega (arith, least, top)
 
   pub few_places : count ≤ size
   few_places = let all = few_offered w.was l.lent.ports.items l.port w.p r w.passes in omega (arith, enough, all)
 
-  pub few_taken : count ≤ 1024
+  pub few_taken : count ≤ most_ring
   few_taken = let least = few_places in let top = most in omega (arith, least, top)
 
   pub few_kernel : count ≤ kernel_count size r.ring.head r.ring.last_tail

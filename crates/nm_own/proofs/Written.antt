@@ -1,13 +1,16 @@
 -- A buffer whose first bytes are written, over what is seen.
-use Rattle.std.proofs.Common.{ℕ, zero, suc, ◌≡◌, ◌≤◌, ◌-◌, Bool, true, false, List, [], ◌∷◌, ◌++◌, length, drop, map, set, Option, Some, None, refl, sym, ◌∙◌, ap, arith, length-append}
+use Rattle.std.proofs.Common.{ℕ, zero, suc, ◌≡◌, ◌≤◌, ◌-◌, Bool, true, false, List, [], ◌∷◌, ◌++◌, length, drop, if◌then◌else◌, map, set, Option, Some, None, refl, sym, ◌∙◌, ap, arith, length-append}
 use Rattle.std.specs.Prelude.{is_some, unwrap_or}
+use Rattle.std.specs.Option.{option_map_or}
 use Rattle.std.proofs.lemmas.List.{length-set, length-drop}
 use Rattle.nm_types.specs.declared.id.Side.{Side}
 use Rattle.nm_types.specs.declared.id.Side.TheVariants.{Tx}
 use Rattle.nm_types.specs.Slots.{SlotState}
 use Rattle.nm_types.specs.OwnPorts.{OwnRing, OwnPort, OwnState, bytes_at, with_ring, slot_in, named_of, ring_at}
-use Rattle.nm_types.specs.OwnEdits.{has_slot, with_written, with_frame, with_frame_on}
-use Rattle.nm_own.specs.Acts.{head_slot_in}
+use Rattle.nm_types.specs.OwnEdits.{has_room, with_written, with_frame, with_part, with_part_on, with_parts}
+use Rattle.nm_types.specs.Parts.{parts_of}
+use Rattle.nm_types.proofs.PutParts.{with_frame-one}
+use Rattle.nm_own.specs.Acts.{has_slot, IsRingAt, head_slot_in, front_slot_in}
 use Rattle.nm_own.specs.Edits.{ring_framed}
 use Rattle.nm_types.specs.SyncChecks.{contains_index}
 use Rattle.nm_hold.specs.declared.standing.Home.{Home}
@@ -16,7 +19,7 @@ use Rattle.nm_hold.specs.Standings.{cell_fronted}
 use Rattle.nm_hold.specs.Holds.{HoldState, buffers_of, standing_at, cell_at, places_of, with_cell, is_named_at, IsHold, SamePlaces}
 use Rattle.nm_hold.proofs.Shown.{named_stands}
 use Rattle.nm_port.specs.declared.port.UserPort.{UserPort}
-use Rattle.nm_port.specs.RingSlots.{RingSlots, slot_before_tail}
+use Rattle.nm_port.specs.RingSlots.{RingSlots, slot_at, slot_before_tail}
 use Rattle.nm_port.specs.Own.{ring_seen, port_seen, own_seen, bytes_in_cell, AreSided, AreRings, AreFlagged, AreFilled, AreWhole}
 use Rattle.nm_own.proofs.Filled.{is_named_seen}
 use Rattle.nm_port.proofs.Checked.{bytes_are_seen}
@@ -24,6 +27,7 @@ use Rattle.nm_port.proofs.Seeing.{map-set, ports_same}
 use Rattle.nm_types.specs.declared.id.PortId.{PortId}
 use Rattle.nm_own.specs.Kept.{IsKept}
 use Rattle.nm_own.specs.declared.own.OwnSide.TheInside.{Inside}
+use Rattle.nm_own.proofs.RingTests.{room_short}
 
 -- a written cell
 fronted_bytes : (bytes : List ℕ) (cell : Option Standing) (s : Standing) → cell ≡ Some s → bytes_in_cell (cell_fronted bytes cell) ≡ bytes ++ drop (length bytes) (bytes_in_cell cell)
@@ -89,28 +93,32 @@ flagged_kept h new ports keeps flagged i s e = let found = keeps.homes i s e in 
 pub filled_kept : (h new : HoldState) (ports : List UserPort) → SamePlaces (places_of h) (places_of new) → AreFilled h ports → AreFilled new ports
 filled_kept h new ports places filled q = ap is_some (places q) ∙ filled q
 
--- a frame that is put at the head, if there is a slot
-pub head_has : (s : OwnState) (id : ℕ) (bytes : List ℕ) (slot : SlotState) → head_slot_in Tx (ring_at Tx s id) ≡ Some slot
+-- a short frame that is put at the head, if there is a slot
+pub head_has : (s : OwnState) (id : ℕ) (bytes : List ℕ) (slot : SlotState) → IsRingAt Tx s id → length bytes ≤ 2048 → head_slot_in Tx (ring_at Tx s id) ≡ Some slot
     → with_frame id bytes s ≡ with_ring Tx id (ring_framed Tx (length bytes)) (with_written slot.buf_idx bytes s)
-head_has s id bytes slot e = by_ring (ring_at Tx s id) e
+head_has s id bytes slot rings few e = with_frame-one id bytes s few ∙ by_ring (ring_at Tx s id) refl e
   where
-    by_slot : (r : OwnRing) (b : Bool) → has_slot r ≡ b → head_slot_in Tx (Some r) ≡ Some slot
-        → with_frame_on id bytes s (Some r) ≡ with_ring Tx id (ring_framed Tx (length bytes)) (with_written slot.buf_idx bytes s)
-    by_slot r false has e = absurd (let no = rw has at e in cc)
-    by_slot r true has e = let is : slot_in Tx r r.ring.head ≡ slot = (let one = rw has at e in cc) in rw (has, is) refl
+    by_slot : (r : OwnRing) (b : Bool) → has_slot r ≡ b → ring_at Tx s id ≡ Some r → head_slot_in Tx (Some r) ≡ Some slot
+        → (if has_room s id bytes then with_part id false bytes s else s) ≡ with_ring Tx id (ring_framed Tx (length bytes)) (with_written slot.buf_idx bytes s)
+    by_slot r false has at e = absurd (let no = rw has at e in cc)
+    by_slot r true has at e =
+        let is : slot_in Tx r r.ring.head ≡ slot = (let one = rw has at e in cc) in
+        let room : has_room s id bytes ≡ true = room_short s id bytes rings few ∙ (ap (λ (o : Option OwnRing). option_map_or has_slot o false) at ∙ has) in
+        rw room (ap (with_part_on id false bytes s) at ∙ rw is refl)
 
-    by_ring : (o : Option OwnRing) → head_slot_in Tx o ≡ Some slot → with_frame_on id bytes s o ≡ with_ring Tx id (ring_framed Tx (length bytes)) (with_written slot.buf_idx bytes s)
-    by_ring None e = absurd cc
-    by_ring (Some r) e = by_slot r (has_slot r) refl e
+    by_ring : (o : Option OwnRing) → ring_at Tx s id ≡ o → head_slot_in Tx o ≡ Some slot
+        → (if has_room s id bytes then with_part id false bytes s else s) ≡ with_ring Tx id (ring_framed Tx (length bytes)) (with_written slot.buf_idx bytes s)
+    by_ring None at e = absurd cc
+    by_ring (Some r) at e = by_slot r (has_slot r) refl at e
 
-pub head_lacks : (s : OwnState) (id : ℕ) (bytes : List ℕ) → head_slot_in Tx (ring_at Tx s id) ≡ None → with_frame id bytes s ≡ s
-head_lacks s id bytes e = by_ring (ring_at Tx s id) e
+pub head_lacks : (s : OwnState) (id : ℕ) (bytes : List ℕ) → IsRingAt Tx s id → length bytes ≤ 2048 → head_slot_in Tx (ring_at Tx s id) ≡ None → with_frame id bytes s ≡ s
+head_lacks s id bytes rings few e = rw (room_short s id bytes rings few) (by_ring (ring_at Tx s id) e)
   where
-    by_slot : (r : OwnRing) (b : Bool) → has_slot r ≡ b → head_slot_in Tx (Some r) ≡ None → with_frame_on id bytes s (Some r) ≡ s
+    by_slot : (r : OwnRing) (b : Bool) → has_slot r ≡ b → head_slot_in Tx (Some r) ≡ None → (if has_slot r then with_parts id (parts_of bytes) s else s) ≡ s
     by_slot r false has e = rw has refl
     by_slot r true has e = absurd (let one = rw has at e in cc)
 
-    by_ring : (o : Option OwnRing) → head_slot_in Tx o ≡ None → with_frame_on id bytes s o ≡ s
+    by_ring : (o : Option OwnRing) → head_slot_in Tx o ≡ None → (if option_map_or has_slot o false then with_parts id (parts_of bytes) s else s) ≡ s
     by_ring None e = refl
     by_ring (Some r) e = by_slot r (has_slot r) refl e
 
@@ -161,3 +169,6 @@ fronted_inside o new idx bytes kept few cell places is =
 -- the slot at the head, as it is seen
 pub head_slot_seen : (h : HoldState) (port : PortId) (side : Side) (r : RingSlots) → r.side ≡ side → slot_before_tail r ≡ head_slot_in side (Some (ring_seen h port r))
 head_slot_seen h port side r e = rw e refl
+
+pub front_slot_seen : (h : HoldState) (port : PortId) (side : Side) (r : RingSlots) → r.side ≡ side → Some (slot_at r r.ring.head) ≡ front_slot_in side (Some (ring_seen h port r))
+front_slot_seen h port side r e = rw e refl

@@ -9,13 +9,13 @@ use Rattle.nm_types.specs.declared.id.Side.{Side}
 use Rattle.nm_types.specs.declared.id.Side.TheVariants.{Tx, Rx}
 use Rattle.nm_types.specs.declared.place.Place.{Place}
 use Rattle.nm_types.specs.Positions.{dist, slots_from}
-use Rattle.nm_types.specs.OwnPorts.{OwnState, bytes_at, ring_at}
+use Rattle.nm_types.specs.OwnPorts.{OwnState, bytes_at, ring_at, refusal_at}
 use Rattle.nm_types.specs.OwnSyncs.{after_exchange, taken_on, back_on}
 use Rattle.nm_region.specs.Buffers.{Buffer, indices_of}
 use Rattle.nm_hold.specs.Holds.{HoldState}
 use Rattle.nm_own.specs.declared.lending.LentSide.{LentSide}
 use Rattle.nm_port.specs.RingSlots.{RingSlots}
-use Rattle.nm_port.specs.Own.{own_seen, slots_at, refusal_at}
+use Rattle.nm_port.specs.Own.{own_seen, slots_at}
 use Rattle.nm_port.specs.Regions.{AllOf, AreOf, SideState, side_seen}
 use Rattle.nm_own.specs.Kept.{IsKept}
 use Rattle.nm_port.specs.Closing.{bytes_of_buffers}

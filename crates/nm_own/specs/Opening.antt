@@ -20,7 +20,7 @@ IsNew s idx = IsBufferIndex s.pool idx × (bytes_at s idx ≡ [])
 
 -- buffers that come with an opening, all of whose bytes are zero
 abbrev pub blank_arrival : ℕ → Arrival
-blank_arrival idx = record { buffer = idx; bytes = [] }
+blank_arrival idx = record { buffer = idx; bytes = []; rest = 0 }
 
 abbrev pub blank_arrivals : List ℕ → List Arrival
 blank_arrivals idxs = map blank_arrival idxs

@@ -1,8 +1,7 @@
-ghost use Rattle.std.specs.Prelude.{◌≡◌, ◌≤◌, length, is_some, unwrap_or};
-ghost use Rattle.nm_own.specs.Words.{has_room, slot_naming, slot_of_place, with_all_back};
-ghost use Rattle.nm_own.specs.Words.{with_forwarded, with_frame, with_positions, with_slot_field};
-ghost use Rattle.nm_own.specs.Words.{with_slots_swapped};
-ghost use Rattle.nm_own.specs.Acts.{place_seen, after_one};
+ghost use Rattle.std.specs.Prelude.{◌≡◌};
+ghost use Rattle.nm_own.specs.Words.{slot_naming, slot_of_place, with_all_back, with_positions};
+ghost use Rattle.nm_own.specs.Words.{with_slot_field, with_slots_swapped};
+ghost use Rattle.nm_own.specs.Acts.{place_seen};
 
 use crate::edit::RingEdit;
 use crate::own::OwnSide;
@@ -17,7 +16,7 @@ pub struct SlotPlace {
 }
 
 /// A slot that names another buffer, announced or not.
-fn naming(slot: Slot, idx: u32, announce: bool) -> Slot
+pub(crate) fn naming(slot: Slot, idx: u32, announce: bool) -> Slot
     ensures { result ≡ slot_naming announce idx slot }
 {
     let flags = if announce {
@@ -91,72 +90,6 @@ impl OwnSide {
                     naming(two, first, announce),
                 );
             }
-        }
-    }
-
-    /// Whether a frame can be put at the head of a port's transmit ring: its positions fit, and
-    /// its head is before its tail.
-    pub fn has_room(&self, port: PortId) -> bool
-        ensures { result ≡ has_room self.now.own port.0 }
-    {
-        self.head_slot(port, Side::Tx).is_some()
-    }
-
-    /// Puts a frame at the head of a port's transmit ring, if it has room: writes the bytes over
-    /// the first ones of the buffer that the slot names, if it is a named one, sets the slot's
-    /// length, clears its marks of a former frame, and moves head and cur to the next position.
-    pub fn put_frame(&mut self, port: PortId, bytes: &[u8])
-        requires { length bytes.now ≤ 2048 }
-        ensures { self.new ≡ record self.old { own = with_frame port.0 bytes.now self.old.own } }
-    {
-        if let Some(slot) = self.head_slot(port, Side::Tx) {
-            self.write_front(slot.buf_idx, bytes);
-            self.edit(port, Side::Tx, RingEdit::Frame(bytes.len() as u16));
-        }
-    }
-
-    /// Forwards up to `count` frames without a copy, from the receive ring of one port to the
-    /// transmit ring of another, which may be the same, while both have a slot at their heads: the
-    /// two slots change the buffers that they name and are marked as changed, the transmit slot
-    /// takes the length, and head and cur of both rings go on by one.
-    pub fn forward(&mut self, from: PortId, to: PortId, count: u32)
-        ensures { self.new
-            ≡ record self.old { own = with_forwarded count from.0 to.0 self.old.own } }
-    {
-        for _ in 0..count {
-            if !self.forward_one(from, to) {
-                return;
-            }
-        }
-    }
-
-    /// Forwards one frame, if both rings have a slot at their heads.
-    fn forward_one(&mut self, from: PortId, to: PortId) -> bool
-        ensures moved { result ≡ is_some (after_one from.0 to.0 self.old.own) }
-        ensures after { self.new
-            ≡ record self.old {
-              own = unwrap_or (after_one from.0 to.0 self.old.own) self.old.own;
-            } }
-    {
-        match self.head_slot(from, Side::Rx) {
-            Some(got) => match self.head_slot(to, Side::Tx) {
-                Some(free) => {
-                    let back = naming(got, free.buf_idx, true);
-                    let sent = naming(free, got.buf_idx, true);
-                    self.edit(from, Side::Rx, RingEdit::Forward(back));
-                    self.edit(
-                        to,
-                        Side::Tx,
-                        RingEdit::Forward(Slot {
-                            len: got.len,
-                            ..sent
-                        }),
-                    );
-                    true
-                }
-                None => false,
-            },
-            None => false,
         }
     }
 }

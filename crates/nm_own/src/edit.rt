@@ -19,7 +19,11 @@ pub(crate) enum RingEdit {
     Slot(u32, Slot),
     /// The slot at the head, and the next head and the next cur.
     Forward(Slot),
-    /// A frame's length in the slot at the head, and the next position as head and cur.
+    /// The length of a part of a frame, behind which others follow, in the slot at the head, and the
+    /// next position as head and cur.
+    Part(u16),
+    /// A frame's length, or that of its last part, in the slot at the head, and the next position as
+    /// head and cur.
     Frame(u16),
 }
 
@@ -34,6 +38,7 @@ fn edit_ring(ring: &mut SlotRing, edit: RingEdit)
         RingEdit::AllBack => ring.give_all_back(),
         RingEdit::Slot(at, slot) => ring.put_slot(at, slot),
         RingEdit::Forward(slot) => ring.forward(slot),
+        RingEdit::Part(len) => ring.put_part(len),
         RingEdit::Frame(len) => ring.put_frame(len),
     }
 }

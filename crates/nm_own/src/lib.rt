@@ -5,6 +5,7 @@ mod acts;
 mod copies;
 mod edit;
 mod extras;
+mod forwarding;
 pub mod laws;
 mod lend;
 mod lend_offers;
@@ -12,6 +13,7 @@ mod lending;
 mod named;
 mod open;
 mod own;
+mod putting;
 mod slot_lent;
 
 pub use acts::SlotPlace;

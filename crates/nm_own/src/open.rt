@@ -1,4 +1,5 @@
 ghost use Rattle.std.specs.Prelude.{◌≡◌, ◌<◌, ◌≤◌, ◌++◌, ◌∷◌, [], IfOk, length, min};
+ghost use Rattle.nm_types.specs.Limits.{most_extra};
 ghost use Rattle.nm_own.specs.Words.{IsRingSize, chain_head, deque_capacity, indices_of};
 ghost use Rattle.nm_own.specs.Words.{vec_capacity};
 ghost use Rattle.nm_own.specs.NewPorts.{NewPortState};
@@ -49,7 +50,7 @@ impl NewPort {
     ) -> Result<NewPort, NoMemory>
         requires tx { IsTxSize sizes.tx }
         requires rx { IsRingSize sizes.rx }
-        requires extra { sizes.extra ≤ 1024 }
+        requires extra { sizes.extra ≤ most_extra }
         requires same { length hold.now.ports ≡ length ports.now }
         ensures name { IfOk result (λ new. new.name ≡ name) }
         ensures sizes { IfOk result (λ new. new.sizes ≡ sizes) }

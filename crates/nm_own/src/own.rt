@@ -1,5 +1,6 @@
 ghost use Rattle.std.specs.Prelude.{◌≡◌, ◌≤◌, ◌++◌, length, nat_eq, IfOk, IsSome, None, Some};
 ghost use Rattle.std.specs.Prelude.{option_map, slice_get};
+ghost use Rattle.nm_types.specs.Limits.{most_extra};
 ghost use Rattle.nm_own.specs.Words.{AllByRecursion, AllOf, AreOf, IsDistinct};
 ghost use Rattle.nm_own.specs.Words.{IsPoolSize, IsRingSize, OwnPort, Rx, TellsRefusal, Tx};
 ghost use Rattle.nm_own.specs.Words.{back_on, buffers_with_id, bytes_at, bytes_of_buffers};
@@ -21,7 +22,7 @@ ghost use Rattle.nm_own.specs.ExtraChain.{head_of_extras, extra_at, extra_number
 ghost use Rattle.std.specs.Prelude.{ℕ, [], ◌+◌, ◌↔◌, IfSome, true, map, is_some};
 ghost use Rattle.std.specs.Prelude.{option_and_then};
 ghost use Rattle.nm_own.specs.Edits.{own_edited};
-ghost use Rattle.nm_own.specs.Acts.{head_slot_in};
+ghost use Rattle.nm_own.specs.Acts.{IsRingAt, front_slot_in, head_slot_in};
 ghost use Rattle.nm_own.specs.Kept.{IsKept};
 ghost use Rattle.nm_port.specs.Regions.{SideState, side_seen};
 
@@ -63,7 +64,7 @@ impl Model for OwnSide {
 
 /// The port of an id.
 #[inline(never)]
-fn port_at(ports: &[UserPort], id: PortId) -> Option<&UserPort>
+pub(crate) fn port_at(ports: &[UserPort], id: PortId) -> Option<&UserPort>
     ensures { option_copied result ≡ port_at ports.now id.0 }
 {
     ports.iter().find(|port| port.id.0 == id.0)
@@ -142,7 +143,7 @@ impl OwnSide {
     ) -> Result<NewPort, NoMemory>
         requires tx { IsTxSize tx }
         requires rx { IsRingSize rx }
-        requires extra { extra ≤ 1024 }
+        requires extra { extra ≤ most_extra }
         ensures name { IfOk result (λ new. new.name ≡ name) }
         ensures sizes { IfOk result
             (λ new. new.sizes ≡ record { tx = tx; rx = rx; extra = extra }) }
@@ -357,8 +358,14 @@ impl OwnSide {
         ensures refusal { TellsRefusal result (refusal_at side port.0 self.old.own) }
         ensures same { self.new ≡ self.old }
     {
-        match ring_at(&self.ports, port, side) {
-            Some(ring) => check_named_ring(&self.hold, port, ring, &mut self.marks),
+        match port_at(&self.ports, port) {
+            Some(own) => match ring_on(own, side) {
+                Some(ring) => {
+                    let whole = own.name.is_pipe();
+                    check_named_ring(&self.hold, port, ring, whole, &mut self.marks)
+                }
+                None => unreachable!(),
+            },
             None => unreachable!(),
         }
     }
@@ -417,10 +424,21 @@ impl OwnSide {
 
     /// The slot at the head of a ring whose positions fit and whose head is before its tail.
     pub(crate) fn head_slot(&self, port: PortId, side: Side) -> Option<Slot>
-        ensures { result ≡ head_slot_in side (ring_at side self.now.own port.0) }
+        ensures slot { result ≡ head_slot_in side (ring_at side self.now.own port.0) }
+        ensures ring { IsRingAt side self.now.own port.0 }
     {
         match ring_at(&self.ports, port, side) {
             Some(ring) => slot_at_head(ring),
+            None => None,
+        }
+    }
+
+    /// The slot at the head of a ring, wherever the head is.
+    pub(crate) fn front_slot(&self, port: PortId, side: Side) -> Option<Slot>
+        ensures { result ≡ front_slot_in side (ring_at side self.now.own port.0) }
+    {
+        match ring_at(&self.ports, port, side) {
+            Some(ring) => Some(ring.head_slot()),
             None => None,
         }
     }
@@ -440,6 +458,15 @@ impl OwnSide {
         ensures { self.new ≡ record self.old { own = own_edited port.0 side edit self.old.own } }
     {
         edit_rings(&mut self.ports, port, side, edit);
+    }
+
+    /// How many slots of a transmit ring are pushed, for a push that no check refuses.
+    pub fn pushed_count(&self, port: PortId) -> u32
+        requires ring { IsSome (ring_at Tx self.now.own port.0) }
+        requires passes { refusal_at Tx port.0 self.now.own ≡ None }
+        ensures { result ≡ length (pushed_on Tx port.0 self.now.own) }
+    {
+        fitting_ring(&self.ports, port, Side::Tx).pushed().1
     }
 
     /// The frames of the pushed slots of a transmit ring, for a push that no check refuses.
@@ -471,7 +498,7 @@ impl OwnSide {
         gather_names(alloc, fitting_ring(&self.ports, port, Side::Rx))
     }
 
-    /// Whether a port's receive ring has its positions accepted, and a slot left for a frame.
+    /// Whether a port's receive ring has its positions accepted, and a slot left for a part of a frame.
     pub fn can_receive(&self, port: PortId) -> bool
         ensures { result ≡ can_receive port.0 self.now.own }
     {
@@ -494,32 +521,33 @@ impl OwnSide {
         self.hold.buffer(idx).is_none()
     }
 
-    /// Publishes a frame of `len` bytes, the first ones of the buffer that brings it, in the next slot
-    /// of a port's receive ring. All bytes of the buffer behind the frame are cleared.
-    pub fn receive(&mut self, port: PortId, buf: Buf, len: u16)
+    /// Publishes a part of a frame of `len` bytes, the first ones of the buffer that brings it, in the
+    /// next slot of a port's receive ring; behind it `rest` parts of that frame follow. All bytes of the
+    /// buffer behind the part are cleared.
+    pub fn receive(&mut self, port: PortId, buf: Buf, len: u16, rest: u8)
         requires room { can_receive port.0 self.old.own ≡ true }
         requires len { len ≤ 2048 }
         requires new { IsNew self.old.own buf.index }
-        ensures { HasCome port.0 buf len self.old self.new }
+        ensures { HasCome port.0 buf len rest self.old self.new }
     {
         let at = self.place_of(port);
-        self.receive_at(at, port, buf, len);
+        self.receive_at(at, port, buf, len, rest);
     }
 
     /// Does what `receive` does, at the place that `place_of` tells of the port.
-    pub fn receive_at(&mut self, at: usize, port: PortId, buf: Buf, len: u16)
+    pub fn receive_at(&mut self, at: usize, port: PortId, buf: Buf, len: u16, rest: u8)
         requires place { at ≡ place_with_id self.old.own port.0 }
         requires room { can_receive port.0 self.old.own ≡ true }
         requires len { len ≤ 2048 }
         requires new { IsNew self.old.own buf.index }
-        ensures { HasCome port.0 buf len self.old self.new }
+        ensures { HasCome port.0 buf len rest self.old self.new }
     {
         let slot = self.ports[at].rx.ring().tail();
         let mut buf = buf;
         clear_behind(&mut buf, len);
         let idx = buf.index();
         self.hold.add_received(port, slot, buf);
-        self.ports[at].rx.publish(idx, len);
+        self.ports[at].rx.publish(idx, len, rest);
     }
 
     /// What stands after a send, for a push that no check refuses: the buffers that the pushed

@@ -2,6 +2,7 @@
 use Rattle.std.specs.Prelude.{◌≡◌, ◌≤◌, ◌*◌, [], length}
 use Rattle.std.specs.Vec.{vec_capacity}
 use Rattle.nm_types.specs.Buffers.{IsPoolSize}
+use Rattle.nm_types.specs.Limits.{most_pool}
 use Rattle.nm_pool.specs.Bits.{AreBits}
 use Rattle.nm_pool.specs.Kept.{buffers_in, ArePlaced}
 use Rattle.nm_pool.specs.declared.pool.Pool.TheInside.{Inside}
@@ -14,4 +15,4 @@ pub record IsStored (p : Inside) : Type 0 where
   pub room : length p.places.items ≤ vec_capacity p.room
   pub bits : AreBits p.words.items p.places.items
   pub words : length p.places.items ≤ length p.words.items * 64
-  pub few : length p.words.items ≤ 1024
+  pub few : length p.words.items * 64 ≤ most_pool

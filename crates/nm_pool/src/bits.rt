@@ -1,4 +1,5 @@
 ghost use Rattle.std.specs.Prelude.{◌≡◌, ◌≢◌, ◌≤◌, ◌<◌, ◌+◌, ◌*◌, ◌-◌, ◌^◌, ◌/◌, ◌%◌, ℕ, length, min, IfOk, IfSome, IfNone};
+ghost use Rattle.nm_types.specs.Limits.{most_pool};
 ghost use Rattle.nm_pool.specs.Bits.{bit_of};
 
 use std::alloc::{AllocError, Global};
@@ -16,11 +17,11 @@ fn full_word(count: usize) -> u64
 
 /// Words of which the `count` first bits are set.
 pub(crate) fn full_words(alloc: Global, count: usize) -> Result<Vec<u64>, AllocError>
-    requires { count ≤ 65536 }
+    requires { count ≤ most_pool }
     ensures set { IfOk result (λ words. (k : ℕ) → k < count → bit_of words.items k ≡ 1) }
     ensures clear { IfOk result (λ words. (k : ℕ) → count ≤ k → bit_of words.items k ≡ 0) }
     ensures enough { IfOk result (λ words. count ≤ length words.items * 64) }
-    ensures few { IfOk result (λ words. length words.items ≤ 1024) }
+    ensures few { IfOk result (λ words. length words.items * 64 ≤ most_pool) }
 {
     let most = (count + 63) / 64;
     let mut words = Vec::with_capacity(alloc, most)?;
@@ -53,8 +54,8 @@ pub(crate) fn clear_bit(words: &mut Vec<u64>, k: usize)
 /// The first bit that is set, where none is before `from`.
 pub(crate) fn first_bit(words: &Vec<u64>, from: usize) -> Option<usize>
     requires before { (k : ℕ) → k < from → bit_of words.now.items k ≡ 0 }
-    requires few { length words.now.items ≤ 1024 }
-    requires from { from ≤ 65536 }
+    requires few { length words.now.items * 64 ≤ most_pool }
+    requires from { from ≤ most_pool }
     ensures set { IfSome result (λ k. bit_of words.now.items k ≡ 1) }
     ensures before { IfSome result (λ k. (j : ℕ) → j < k → bit_of words.now.items j ≡ 0) }
     ensures within { IfSome result (λ k. k < length words.now.items * 64) }

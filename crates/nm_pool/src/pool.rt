@@ -7,6 +7,7 @@ ghost use Rattle.nm_pool.specs.Free.{with_buffer, AreWhole, IsPool};
 ghost use Rattle.nm_pool.specs.Kept.{buffers_in, ArePlaced};
 ghost use Rattle.nm_region.specs.Buffers.{indices_of};
 ghost use Rattle.nm_types.specs.Buffers.{IsPoolSize, IsBufferIndex};
+ghost use Rattle.nm_types.specs.Limits.{most_pool};
 
 use crate::bits::{clear_bit, first_bit, full_words, set_bit};
 use nm_region::Buf;
@@ -164,7 +165,7 @@ fn take_first(places: &mut Vec<Option<Buf>>, words: &mut Vec<u64>, taken: &mut V
     requires none { taken.old.items ≡ [] }
     requires bits { AreBits words.old.items places.old.items }
     requires words { length places.old.items ≤ length words.old.items * 64 }
-    requires few { length words.old.items ≤ 1024 }
+    requires few { length words.old.items * 64 ≤ most_pool }
     ensures taken { taken.new.items ≡ take n (buffers_in places.old.items) }
     ensures left { buffers_in places.new.items ≡ drop n (buffers_in places.old.items) }
     ensures placed { (index : ℕ)

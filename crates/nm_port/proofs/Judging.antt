@@ -1,46 +1,61 @@
 -- The checks of pushed slots, one behind the other, and the marks of the buffers that they name.
-use Rattle.std.proofs.Common.{ℕ, zero, suc, ◌≡◌, ◌≢◌, ◌<◌, Bool, true, false, nat_eq, List, [], ◌∷◌, ◌++◌, length, take, get_or, set, replicate, if◌then◌else◌, Option, Some, None, option_map, refl, sym, ◌∙◌, ap, arith, append_assoc}
+use Rattle.std.proofs.Common.{ℕ, zero, suc, ◌≡◌, ◌≢◌, ◌<◌, ◌≤◌, ◌+◌, ◌-◌, Bool, true, false, nat_eq, List, [], ◌∷◌, ◌++◌, length, map, take, drop, get_or, set, replicate, if◌then◌else◌, Option, Some, None, inl, inr, refl, sym, ◌∙◌, ap, arith}
 use Rattle.std.specs.Prelude.{◌||◌}
+use Rattle.std.proofs.lemmas.Bool.{cases_Bool}
+use Rattle.std.proofs.lemmas.Bool.Decides.{nat_tests}
 use Rattle.std.proofs.Math.Bool.{or-true, or-false}
-use Rattle.std.proofs.lemmas.List.{append-nil, length-replicate, length-set, get_or-set_same, get_or-set_other, get_or-replicate, same_lists, get_or_read}
+use Rattle.std.specs.List.{range_with_len}
+use Rattle.std.proofs.lemmas.List.{length-replicate, length-set, length-map, length-drop, drop_all, get_or-set_same, get_or-set_other, get_or-replicate, same_lists, get_or_read}
 use Rattle.std.proofs.lemmas.List.Folds.{list_any-append}
 use Rattle.nm_hold.proofs.Spots.{nat_eq-is}
 use Rattle.nm_types.specs.declared.id.Side.{Side}
 use Rattle.nm_types.specs.declared.refusal.SlotFault.{SlotFault}
 use Rattle.nm_types.specs.declared.fault.SyncFault.{SyncFault}
-use Rattle.nm_types.specs.Slots.{Pushed, pushed_names}
+use Rattle.nm_types.specs.Slots.{SlotState, Pushed, pushed_names, goes_on}
 use Rattle.nm_types.specs.SyncFaults.{slot_sync_fault}
-use Rattle.nm_types.specs.SyncChecks.{slots_refusal, slot_refusal, first_refusal, seen_of, contains_index}
-use Rattle.nm_types.proofs.Tests.{false_true, same_true}
+use Rattle.nm_types.specs.Positions.{step_on, slots_from}
+use Rattle.nm_types.specs.SyncChecks.{slots_refusal, slot_refusal, seen_of, begun_after, contains_index}
+use Rattle.std.proofs.lemmas.List.FromFn.{length-range_with_len}
+use Rattle.nm_types.proofs.Tests.{same_true, false_true}
+use Rattle.nm_port.proofs.Seeing.{get-slots}
 use Rattle.nm_port.specs.Sides.{AreMarked, AreMarkedOf, AreCleared}
 
-refusal-assoc : (a b c : Option SyncFault) → first_refusal (first_refusal a b) c ≡ first_refusal a (first_refusal b c)
-refusal-assoc None b c = refl
-refusal-assoc (Some fault) b c = refl
+module _ {X : Type 0} where
+  rest-at : (xs : List X) (i : ℕ) (d : X) → i < length xs → drop i xs ≡ get_or xs i d ∷ drop (i + 1) xs
+  rest-at [] i d within = absurd (omega (arith, within))
+  rest-at (x ∷ xs) zero d within = refl
+  rest-at (x ∷ xs) (suc i) d within = let next : suc i + 1 ≡ suc (i + 1) = omega arith in rw next (rest-at xs i d (omega (arith, within)))
 
--- the first refusal of two runs of slots
-pub slots_refusal-append : (side : Side) (pool : ℕ) (named earlier : List ℕ) (xs ys : List Pushed)
-    → slots_refusal side pool named earlier (xs ++ ys) ≡ first_refusal (slots_refusal side pool named earlier xs) (slots_refusal side pool named (earlier ++ pushed_names xs) ys)
-slots_refusal-append side pool named earlier [] ys = ap (λ (names : List ℕ). slots_refusal side pool named names ys) (sym (append-nil earlier))
-slots_refusal-append side pool named earlier (x ∷ xs) ys =
-    let here = option_map slot_sync_fault (slot_refusal side (seen_of pool named earlier x) x.at x.slot) in
-    let next = earlier ++ x.slot.buf_idx ∷ [] in
-    ap (first_refusal here) (slots_refusal-append side pool named next xs ys ∙ ap (λ (names : List ℕ). first_refusal (slots_refusal side pool named next xs) (slots_refusal side pool named names ys)) (append_assoc earlier (x.slot.buf_idx ∷ []) (pushed_names xs)))
-    ∙ sym (refusal-assoc here (slots_refusal side pool named next xs) (slots_refusal side pool named (earlier ++ pushed_names (x ∷ xs)) ys))
+  pub length-slots : (f : ℕ → X) (size first n : ℕ) → length (map f (slots_from size first n)) ≡ n
+  length-slots f size first n = length-map (slots_from size first n) f ∙ (length-map (range_with_len 0 n) (step_on size first) ∙ length-range_with_len 0 n)
 
--- one slot more passes
-pub passed_more : (side : Side) (pool : ℕ) (named : List ℕ) (xs : List Pushed) (x : Pushed) → slots_refusal side pool named [] xs ≡ None
-    → slot_refusal side (seen_of pool named (pushed_names xs) x) x.at x.slot ≡ None → slots_refusal side pool named [] (xs ++ x ∷ []) ≡ None
-passed_more side pool named xs x passed here =
-    slots_refusal-append side pool named [] xs (x ∷ []) ∙ (ap (λ (o : Option SyncFault). first_refusal o (slots_refusal side pool named (pushed_names xs) (x ∷ []))) passed ∙ rw here refl)
+  -- the slots that are not yet judged: the next one, and those behind it
+  pub rest-next : (f : ℕ → X) (size first n k : ℕ) → k < n → drop k (map f (slots_from size first n)) ≡ f (step_on size first k) ∷ drop (k + 1) (map f (slots_from size first n))
+  rest-next f size first n k below =
+      let all = map f (slots_from size first n) in
+      let x = f (step_on size first k) in
+      let long = length-slots f size first n in
+      rest-at all k x (omega (arith, below, long)) ∙ ap (λ (y : X). y ∷ drop (k + 1) all) (get-slots f size first 0 n k x below ∙ ap (λ (i : ℕ). f (step_on size first i)) (omega arith))
 
--- a slot that does not pass is the first refusal of all
-pub refused_at : (side : Side) (pool : ℕ) (named : List ℕ) (xs ys : List Pushed) (x : Pushed) (fault : SlotFault) → slots_refusal side pool named [] xs ≡ None
-    → slot_refusal side (seen_of pool named (pushed_names xs) x) x.at x.slot ≡ Some fault → slots_refusal side pool named [] ((xs ++ x ∷ []) ++ ys) ≡ Some (slot_sync_fault fault)
-refused_at side pool named xs ys x fault passed here =
-    let first : slots_refusal side pool named [] (xs ++ x ∷ []) ≡ Some (slot_sync_fault fault) =
-    slots_refusal-append side pool named [] xs (x ∷ []) ∙ (ap (λ (o : Option SyncFault). first_refusal o (slots_refusal side pool named (pushed_names xs) (x ∷ []))) passed ∙ rw here refl) in
-    slots_refusal-append side pool named [] (xs ++ x ∷ []) ys ∙ ap (λ (o : Option SyncFault). first_refusal o (slots_refusal side pool named (pushed_names (xs ++ x ∷ [])) ys)) first
+  pub rest-count : (f : ℕ → X) (size first n k : ℕ) → length (drop k (map f (slots_from size first n))) ≡ n - k
+  rest-count f size first n k = (let long = length-slots f size first n in let less = length-drop k (map f (slots_from size first n)) in omega (arith, long, less))
+
+  pub rest-none : (f : ℕ → X) (size first n k : ℕ) → n ≡ k → drop k (map f (slots_from size first n)) ≡ []
+  rest-none f size first n k end = drop_all k (map f (slots_from size first n)) (let long = length-slots f size first n in omega (arith, long, end))
+
+-- a slot that passes leaves the refusals of the others, and one that does not is the first
+pub judged_next : (side : Side) (whole : Bool) (pool : ℕ) (named earlier : List ℕ) (begun : ℕ) (x : Pushed) (others : List Pushed)
+    → slot_refusal side (seen_of whole pool named earlier begun others x) x.at x.slot ≡ None
+    → slots_refusal side whole pool named earlier begun (x ∷ others) ≡ slots_refusal side whole pool named (earlier ++ x.slot.buf_idx ∷ []) (begun_after begun x.slot) others
+judged_next side whole pool named earlier begun x others here = rw here refl
+
+pub judged_bad : (side : Side) (whole : Bool) (pool : ℕ) (named earlier : List ℕ) (begun : ℕ) (x : Pushed) (others : List Pushed) (fault : SlotFault)
+    → slot_refusal side (seen_of whole pool named earlier begun others x) x.at x.slot ≡ Some fault
+    → slots_refusal side whole pool named earlier begun (x ∷ others) ≡ Some (slot_sync_fault fault)
+judged_bad side whole pool named earlier begun x others fault here = rw here refl
+
+pub begun_after-most : (begun : ℕ) (slot : SlotState) → begun_after begun slot ≤ begun + 1
+begun_after-most begun slot = elim (cases_Bool (goes_on slot)) [ inl e ↦ rw e (omega arith) | inr e ↦ rw e (omega arith) ]
 
 -- nothing is marked at first, and then each name of a slot that passed
 pub marked_none : (count : ℕ) → AreMarked (replicate count false) []

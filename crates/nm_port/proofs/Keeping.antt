@@ -1,5 +1,5 @@
 -- A push each of whose slots keeps the buffer in its place: no slot of it is refused.
-use Rattle.std.proofs.Common.{ℕ, zero, suc, ◌≡◌, ◌<◌, ◌≤◌, ◌+◌, Bool, true, false, nat_eq, List, [], ◌∷◌, ◌++◌, map, Option, Some, None, inl, inr, refl, sym, ◌∙◌, ap, subst, arith}
+use Rattle.std.proofs.Common.{ℕ, zero, suc, ◌≡◌, ◌<◌, ◌≤◌, ◌+◌, Bool, true, false, nat_eq, List, [], ◌∷◌, ◌++◌, map, drop, Option, Some, None, inl, inr, refl, sym, ◌∙◌, ap, subst, arith}
 use Rattle.std.specs.Prelude.{◌||◌, unwrap_or}
 use Rattle.std.proofs.lemmas.Bool.{cases_Bool}
 use Rattle.std.proofs.lemmas.List.{map-append}
@@ -8,7 +8,7 @@ use Rattle.nm_types.specs.declared.id.Side.{Side}
 use Rattle.nm_types.specs.declared.id.Side.TheVariants.{Tx, Rx}
 use Rattle.nm_types.specs.Positions.{IsRing, FitsRing, slots_from}
 use Rattle.nm_types.specs.Slots.{Pushed, pushed_names}
-use Rattle.nm_types.specs.SyncChecks.{is_tx, slots_refusal, seen_of, contains_index, PassesSlot}
+use Rattle.nm_types.specs.SyncChecks.{is_tx, slots_refusal, seen_of, begun_after, contains_index, PassesSlot}
 use Rattle.nm_types.proofs.SlotChecks.{slot_refusal-passes}
 use Rattle.nm_types.proofs.Tests.{false_true}
 use Rattle.nm_hold.specs.Holds.{HoldState, buffers_of, index_at, is_named_at, slot_on, IsHold, AreNumbers}
@@ -16,7 +16,7 @@ use Rattle.nm_hold.proofs.Spots.{nat_eq-is}
 use Rattle.nm_port.specs.RingSlots.{RingSlots, slot_at}
 use Rattle.nm_port.specs.Sides.{place_on, number_at, name_at, pushed_seen_at, AreNamed, HaveNamed, IsPlain}
 use Rattle.nm_port.specs.Exchanges.{pushed_count_of, user_position, user_place, KeepAll}
-use Rattle.nm_port.proofs.Judging.{passed_more, contains_more}
+use Rattle.nm_port.proofs.Judging.{judged_next, rest-next, rest-none, contains_more}
 use Rattle.nm_port.proofs.Pushes.{pushed_is_user, seen_more}
 use Rattle.nm_port.proofs.Plain.{named_within}
 use Rattle.nm_port.proofs.Exchanged.{one_place, user_apart}
@@ -79,25 +79,39 @@ module _ (h : HoldState) (id : PortId) (r : RingSlots) (numbers : List ℕ) (is 
       | inr none ↦ none
     ]
 
-    pub kept_passes : (named : List ℕ) → AreNamed h named → (n : ℕ) → n ≤ pushed_count_of r → slots_refusal r.side (buffers_of h) named [] (seen n) ≡ None
-    kept_passes named well zero few = refl
-    kept_passes named well (suc n) few =
-        let next : suc n ≡ n + 1 = omega arith in
-        let below : n < pushed_count_of r = omega (arith, few) in
-        let x = pushed_seen_at h id r (user_position r n) in
-        let named_one = (stands n below).1 in
-        let index = named_within h (own_name n) is_hold named_one in
-        let here : PassesSlot r.side (seen_of (buffers_of h) named (pushed_names (seen n)) x) x.slot = record {
-          direct = λ tx. (plain tx n below).direct;
-          least = index.least;
-          most = index.most;
-          held = sym (well is_hold (own_name n) index.least) ∙ named_one;
-          once = names_apart n below;
-          announced = λ differs. absurd (differs (sym (number_there n below)));
-          fits_buffer = λ tx. (plain tx n below).fits;
-          whole = λ tx. (plain tx n below).whole;
-        } in
-        let passed = passed_more r.side (buffers_of h) named (seen n) x (kept_passes named well n (omega (arith, few)))
-        (slot_refusal-passes r.side (seen_of (buffers_of h) named (pushed_names (seen n)) x) x.at x.slot here) in
-        subst (λ (m : ℕ). slots_refusal r.side (buffers_of h) named [] (seen m) ≡ None) (sym next)
-        (ap (slots_refusal r.side (buffers_of h) named []) (seen_more (pushed_seen_at h id r) r.ring.size r.ring.accepted_head n) ∙ passed)
+    module _ (whole : Bool) (named : List ℕ) (well : AreNamed h named) where
+      abbrev all : List Pushed
+      all = seen (pushed_count_of r)
+
+      -- what is left of them passes, whatever frame goes on before it: no transmit slot is marked
+      kept_from : (left n begun : ℕ) → n + left ≡ pushed_count_of r → slots_refusal r.side whole (buffers_of h) named (pushed_names (seen n)) begun (drop n all) ≡ None
+      kept_from zero n begun sum =
+          let none = rest-none (pushed_seen_at h id r) r.ring.size r.ring.accepted_head (pushed_count_of r) n (omega (arith, sum)) in
+          rw none refl
+      kept_from (suc left) n begun sum =
+          let below : n < pushed_count_of r = omega (arith, sum) in
+          let x = pushed_seen_at h id r (user_position r n) in
+          let others = drop (n + 1) all in
+          let next : drop n all ≡ x ∷ others = rest-next (pushed_seen_at h id r) r.ring.size r.ring.accepted_head (pushed_count_of r) n below in
+          let named_one = (stands n below).1 in
+          let index = named_within h (own_name n) is_hold named_one in
+          let here : PassesSlot r.side (seen_of whole (buffers_of h) named (pushed_names (seen n)) begun others x) x.slot = record {
+            direct = λ tx. (plain tx n below).direct;
+            least = index.least;
+            most = index.most;
+            held = sym (well is_hold (own_name n) index.least) ∙ named_one;
+            once = names_apart n below;
+            announced = λ differs. absurd (differs (sym (number_there n below)));
+            fits_buffer = λ tx. (plain tx n below).fits;
+            whole = λ tx closing. (plain tx n below).whole;
+          } in
+          let passes = slot_refusal-passes r.side (seen_of whole (buffers_of h) named (pushed_names (seen n)) begun others x) x.at x.slot here in
+          let names : pushed_names (seen (n + 1)) ≡ pushed_names (seen n) ++ x.slot.buf_idx ∷ [] =
+          ap pushed_names (seen_more (pushed_seen_at h id r) r.ring.size r.ring.accepted_head n) ∙ map-append (λ (p : Pushed). p.slot.buf_idx) (seen n) (x ∷ []) in
+          let rest = kept_from left (n + 1) (begun_after begun x.slot) (omega (arith, sum)) in
+          ap (slots_refusal r.side whole (buffers_of h) named (pushed_names (seen n)) begun) next
+          ∙ (judged_next r.side whole (buffers_of h) named (pushed_names (seen n)) begun x others passes
+          ∙ (ap (λ (earlier : List ℕ). slots_refusal r.side whole (buffers_of h) named earlier (begun_after begun x.slot) others) (sym names) ∙ rest))
+
+      pub kept_passes : slots_refusal r.side whole (buffers_of h) named [] 0 all ≡ None
+      kept_passes = kept_from (pushed_count_of r) 0 0 (omega arith)

@@ -1,5 +1,6 @@
 pub mod SlotLists
 pub mod Judging
+pub mod Gathering
 pub mod Keeping
 pub mod Pushes
 pub mod Seeing
@@ -19,3 +20,4 @@ pub mod Ranges
 pub mod SideBySide
 pub mod StillNamed
 pub mod Blanks
+pub mod FrameEnds

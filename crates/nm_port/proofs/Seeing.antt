@@ -8,7 +8,7 @@ use Rattle.nm_types.specs.declared.id.PortId.{PortId}
 use Rattle.nm_types.specs.declared.id.Side.{Side}
 use Rattle.nm_types.specs.declared.id.Side.TheVariants.{Tx, Rx}
 use Rattle.nm_types.specs.Positions.{IsRing, FitsRing, dist, step_on}
-use Rattle.nm_types.specs.OwnPorts.{buffer_in, pushed_at, pushed_in, ring_at, ring_on, OwnRing}
+use Rattle.nm_types.specs.OwnPorts.{buffer_in, pushed_at, pushed_in, port_with_id, ring_at, ring_on, OwnRing}
 use Rattle.nm_types.proofs.RingSteps.{dist-below, dist-step_on, step_on-below}
 use Rattle.nm_hold.specs.Holds.{HoldState, port_of}
 use Rattle.nm_port.specs.declared.port.UserPort.{UserPort}
@@ -72,6 +72,18 @@ side_of_found (q ∷ ports) side id p r sided found on = elim (cases_Bool (nat_e
         tx_side None e is = absurd cc
         tx_side (Some t) e is = let same : t ≡ r = cc in rw (← same) is
     at_side Rx e = let same : q.rx ≡ r = cc in rw (← same) sided.0.1
+
+-- a port as it is seen, and its rings
+pub port_is_seen : (h : HoldState) (ports : List UserPort) (id : ℕ) → port_with_id (own_seen h ports) id ≡ option_map (port_seen h) (port_at ports id)
+port_is_seen h [] id = refl
+port_is_seen h (p ∷ ports) id = elim (cases_Bool (nat_eq p.id.0 id)) [
+  | inl here ↦ rw here refl
+  | inr other ↦ rw other (port_is_seen h ports id)
+]
+
+pub ring_on_seen : (h : HoldState) (p : UserPort) (side : Side) → ring_on side (port_seen h p) ≡ option_map (ring_seen h p.id) (slots_on side p)
+ring_on_seen h p Tx = refl
+ring_on_seen h p Rx = refl
 
 -- the ring of a port, as it is seen
 pub ring_is_seen : (h : HoldState) (ports : List UserPort) (side : Side) (id : ℕ) → ring_at side (own_seen h ports) id ≡ option_and_then (λ (p : UserPort). option_map (ring_seen h p.id) (slots_on side p)) (port_at ports id)

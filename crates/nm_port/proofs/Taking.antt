@@ -8,6 +8,7 @@ use Rattle.std.proofs.lemmas.List.{length-set, map-append, append-nil}
 use Rattle.std.proofs.lemmas.List.Folds.{list_any-append}
 use Rattle.std.proofs.lemmas.List.FromFn.{map-range_with_len_more}
 use Rattle.std.proofs.lemmas.List.Sums.{fold-append}
+use Rattle.nm_types.specs.Limits.{most_ring}
 use Rattle.nm_types.specs.declared.id.PortId.{PortId}
 use Rattle.nm_types.specs.declared.place.Place.{Place}
 use Rattle.nm_types.specs.declared.place.Place.TheVariants.{Tx, Rx, Extra}
@@ -210,5 +211,5 @@ pub still_held : (h now : HoldState) (p : UserPort) (k : ℕ) (before after : Li
 still_held h now p k before after taken is there = rw (taken.index (held_place p k), not_yet p k is) there
 
 -- the number of places is small
-pub few_places : (size first tail : ℕ) → first < size → size ≤ 1024 → dist size first tail ≤ 1024
+pub few_places : (size first tail : ℕ) → first < size → size ≤ most_ring → dist size first tail ≤ most_ring
 few_places size first tail within few = let below = dist-below size first tail within in omega arith

@@ -6,6 +6,7 @@ pub mod Resets
 pub mod Filling
 pub mod Closing
 pub mod Exchanges
+pub mod Gathered
 pub mod Offers
 pub mod Receives
 pub mod Puts

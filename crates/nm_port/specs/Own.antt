@@ -1,6 +1,6 @@
 -- A session's own side as it is kept: its ports with their rings, and a hold of the buffers in their
 -- places; and how it is seen.
-use Rattle.std.specs.Prelude.{ℕ, Bool, ◌≡◌, ◌≤◌, ◌==◌, ◌&&◌, nat_lt, is_some, if◌then◌else◌, List, [], ◌∷◌, ◌++◌, length, map, find, flat_map, Option, Some, None, option_map, option_and_then}
+use Rattle.std.specs.Prelude.{ℕ, Bool, false, ◌≡◌, ◌≤◌, ◌==◌, ◌&&◌, nat_lt, is_some, if◌then◌else◌, List, [], ◌∷◌, ◌++◌, length, map, find, flat_map, Option, Some, None, option_map, option_and_then}
 use Rattle.std.specs.Option.{option_map_or}
 use Rattle.std.specs.List.{range_with_len, list_any}
 use Rattle.nm_types.specs.declared.id.PortId.{PortId}
@@ -8,19 +8,20 @@ use Rattle.nm_types.specs.declared.id.Side.{Side}
 use Rattle.nm_types.specs.declared.id.Side.TheVariants.{Tx, Rx}
 use Rattle.nm_types.specs.declared.place.Place.{Place}
 use Rattle.nm_types.specs.declared.place.Place.TheVariants as place
-use Rattle.nm_types.specs.declared.fault.SyncFault.{SyncFault}
-use Rattle.nm_types.specs.Positions.{RingState, IsRing, is_user_slot, user_slots, pushed_slots}
+use Rattle.nm_types.specs.Positions.{RingState, IsRing, is_user_slot, user_slots}
 use Rattle.nm_types.specs.Limits.{buffer_bytes}
 use Rattle.nm_types.specs.Frames.{Frame}
-use Rattle.nm_types.specs.Slots.{frame_at}
+use Rattle.nm_types.specs.Names.{is_pipe_name}
+use Rattle.nm_types.specs.Slots.{frame_at, joined_frames}
 use Rattle.nm_types.specs.Places.{is_same_place}
-use Rattle.nm_types.specs.OwnPorts.{OwnRing, OwnPort, OwnState, ring_at, refusal_in}
+use Rattle.nm_types.specs.OwnPorts.{OwnRing, OwnPort, OwnState}
 use Rattle.nm_hold.specs.declared.standing.Standing.{Standing}
 use Rattle.nm_hold.specs.Holds.{HoldState, buffers_of, standing_at, index_at}
 use Rattle.nm_hold.specs.declared.table.PortPlaces.{PortPlaces}
 use Rattle.nm_hold.specs.Offsets.{count_of}
 use Rattle.nm_port.specs.declared.port.UserPort.{UserPort}
 use Rattle.nm_port.specs.RingSlots.{RingSlots, with_held, slot_at}
+use Rattle.nm_port.specs.Gathered.{slots_pushed}
 use Rattle.nm_port.specs.Sides.{place_on, number_at}
 
 -- the positions whose places a ring has
@@ -114,12 +115,15 @@ abbrev pub AreSided : List UserPort → Type 0
 AreSided [] = Unit {0}
 AreSided (p ∷ ports) = (IsTxSide p.tx × (p.rx.side ≡ Rx)) × AreSided ports
 
--- the refusal of a sync of a port's ring; none where there is no such ring
-abbrev pub refusal_at : Side → ℕ → OwnState → Option SyncFault
-refusal_at side id s = option_and_then (refusal_in side s) (ring_at side s id)
-
 abbrev pub port_at : List UserPort → ℕ → Option UserPort
 port_at ports id = find (λ (p : UserPort). p.id.0 == id) ports
+
+-- whether each slot of the port of an id is a frame
+abbrev pub is_whole_port : UserPort → Bool
+is_whole_port p = is_pipe_name p.name
+
+abbrev pub whole_at : List UserPort → ℕ → Bool
+whole_at ports id = option_map_or is_whole_port (port_at ports id) false
 
 abbrev pub slots_on : Side → UserPort → Option RingSlots
 slots_on Tx p = p.tx
@@ -153,7 +157,7 @@ abbrev pub frame_seen : HoldState → RingSlots → ℕ → Frame
 frame_seen h r at = frame_at (bytes_in_hold h) (slot_at r at)
 
 abbrev pub frames_seen : HoldState → RingSlots → List Frame
-frames_seen h r = map (frame_seen h r) (pushed_slots r.ring r.ring.head)
+frames_seen h r = joined_frames (bytes_in_hold h) None (slots_pushed r)
 
 -- each port keeps room for the buffers in all its places
 abbrev pub HasBackRoom : UserPort → Type 0

@@ -46,8 +46,8 @@ abbrev pub own_with_arrival : ℕ → OwnState → Arrival → OwnState
 own_with_arrival id s came = record (with_ring Rx id (ring_with_arrival came) s) { bytes = with_arrival s.bytes came }
 
 -- the same of a ring as it is kept
-abbrev pub ring_published : ℕ → ℕ → RingSlots → RingSlots
-ring_published buffer len r = record r { ring = accepted 1 r.ring; slots = r.slots ++ published_slot buffer len ∷ [] }
+abbrev pub ring_published : ℕ → ℕ → ℕ → RingSlots → RingSlots
+ring_published buffer len rest r = record r { ring = accepted 1 r.ring; slots = r.slots ++ published_slot buffer len rest ∷ [] }
 
 pub record HasRoom (r : RingSlots) : Type 0 where
   pub side : r.side ≡ Rx

@@ -1,15 +1,16 @@
 -- A ring with its slots: those of a transmit ring by position, those of a receive ring from the accepted
 -- head on, as many as are the user's.
-use Rattle.std.specs.Prelude.{ℕ, Bool, ◌≡◌, ◌<◌, ◌+◌, ◌==◌, ◌&&◌, not, is_none, List, length, Option, Some, None, if◌then◌else◌, slice_index_or, slice_set}
+use Rattle.std.specs.Prelude.{ℕ, suc, Bool, true, ◌≡◌, ◌<◌, ◌+◌, ◌==◌, ◌&&◌, not, is_none, List, length, map, position, Option, Some, None, if◌then◌else◌, slice_index_or, slice_set}
+use Rattle.std.specs.Option.{option_map_or}
 use Rattle.bitflags.specs.Sets.{without}
 use Rattle.nm_types.specs.declared.id.Side.{Side}
 use Rattle.nm_types.specs.declared.id.Side.TheVariants.{Tx, Rx}
-use Rattle.nm_types.specs.Positions.{RingState, IsRing, dist, step_on, is_user_slot, kernel_count}
+use Rattle.nm_types.specs.Positions.{RingState, IsRing, dist, step_on, is_user_slot, slots_from, kernel_count}
 use Rattle.nm_types.specs.Slots.{SlotState}
 use Rattle.nm_types.specs.Reset.{reset_slot}
 use Rattle.nm_types.specs.SyncChecks.{ring_refusal}
 use Rattle.nm_types.specs.OwnPorts.{OwnRing, index_of, blank_slot}
-use Rattle.nm_types.specs.OwnEdits.{frame_marks}
+use Rattle.nm_types.specs.OwnEdits.{frame_marks, flags_of_part, ends_here}
 
 pub record RingSlots : Type 0 where
   pub side : Side
@@ -59,12 +60,24 @@ head_stepped r = at_positions (step_on r.ring.size r.ring.head 1) (step_on r.rin
 abbrev pub slot_framed : ℕ → SlotState → SlotState
 slot_framed len slot = record slot { len = len; flags = without 16 slot.flags frame_marks }
 
+-- a slot with a part of that length, behind which others follow
+abbrev pub slot_going_on : ℕ → SlotState → SlotState
+slot_going_on len slot = record slot { len = len; flags = flags_of_part true slot.flags }
+
 abbrev pub head_has_slot : RingState → Bool
 head_has_slot ring = is_none (ring_refusal ring ring.head ring.cur) && not (ring.head == ring.tail)
 
 -- how many slots there are from the head to before the tail, if the positions fit
 abbrev pub slots_ahead : RingState → ℕ
 slots_ahead ring = if is_none (ring_refusal ring ring.head ring.cur) then dist ring.size ring.head ring.last_tail else 0
+
+-- how many slots of a row there are up to the first in which a frame ends; 0 where none does
+abbrev pub slots_to_end : List SlotState → ℕ
+slots_to_end slots = option_map_or suc (position ends_here slots) 0
+
+-- how many slots the frame at the head has, if the positions fit and it ends before the tail, and else 0
+abbrev pub frame_ahead : RingSlots → ℕ
+frame_ahead r = slots_to_end (map (slot_at r) (slots_from r.ring.size r.ring.head (slots_ahead r.ring)))
 
 abbrev pub slot_before_tail : RingSlots → Option SlotState
 slot_before_tail r = if head_has_slot r.ring then Some (slot_at r r.ring.head) else None

@@ -1,15 +1,16 @@
 -- How the rings, the hold and the list of ports of a session's own side are seen: each place has the
 -- number of the buffer in it, 0 if it holds none.
-use Rattle.std.specs.Prelude.{ℕ, Bool, true, false, ◌≡◌, ◌≤◌, ◌<◌, List, length, map, take, if◌then◌else◌, unwrap_or, slice_index_or, slice_set, ⊤, Result, Ok, Err, Option, Some, None}
+use Rattle.std.specs.Prelude.{ℕ, Bool, true, false, ◌≡◌, ◌≤◌, ◌<◌, ◌==◌, ◌+◌, ◌||◌, List, length, map, take, if◌then◌else◌, unwrap_or, slice_index_or, slice_set, ⊤, Result, Ok, Err, Option, Some, None}
 use Rattle.nm_types.specs.declared.id.PortId.{PortId}
 use Rattle.nm_types.specs.declared.id.Side.{Side}
 use Rattle.nm_types.specs.declared.id.Side.TheVariants.{Tx, Rx}
 use Rattle.nm_types.specs.declared.place.Place.{Place}
 use Rattle.nm_types.specs.declared.place.Place.TheVariants as place
-use Rattle.nm_types.specs.Limits.{buffer_bytes}
+use Rattle.nm_types.specs.Limits.{buffer_bytes, most_frame_slots}
 use Rattle.nm_types.specs.Positions.{is_user_slot, pushed_slots}
 use Rattle.nm_types.specs.Slots.{SlotState, Pushed, has_flag, indirect, more_fragments}
-use Rattle.nm_types.specs.SyncChecks.{contains_index, slot_refusal, seen_of, refusal_of}
+use Rattle.nm_types.specs.declared.slot.Seen.{Seen}
+use Rattle.nm_types.specs.SyncChecks.{contains_index, slot_refusal, refusal_of}
 use Rattle.nm_types.specs.declared.refusal.SlotFault.{SlotFault}
 use Rattle.nm_types.specs.declared.fault.SyncFault.{SyncFault}
 use Rattle.nm_types.specs.SyncFaults.{slot_sync_fault}
@@ -43,10 +44,24 @@ abbrev pub marks_after : Result ⊤ SlotFault → List Bool → ℕ → List Boo
 marks_after (Ok _) marks idx = slice_set marks idx true
 marks_after (Err fault) marks idx = marks
 
+-- a frame must end in a slot behind which so many are pushed, and so many of the frame stand before it
+abbrev pub closes : Bool → ℕ → ℕ → Bool
+closes whole left begun = whole || (left == 0 || begun + 1 == most_frame_slots)
+
+-- what a sync knows of a pushed slot, where a frame must end in it or need not
+abbrev pub seen_closing : Bool → ℕ → List ℕ → List ℕ → Pushed → Seen
+seen_closing closing pool named earlier pushed = record {
+  was = pushed.was;
+  top = pool + 1;
+  held = contains_index named pushed.slot.buf_idx;
+  doubled = contains_index earlier pushed.slot.buf_idx;
+  closing = closing;
+}
+
 -- a slot behind slots that name the earlier buffers is judged as a sync judges it
-abbrev pub JudgesSlot : Result ⊤ SlotFault → Side → ℕ → List ℕ → List ℕ → Pushed → Type 0
-JudgesSlot (Ok _) side pool named earlier pushed = slot_refusal side (seen_of pool named earlier pushed) pushed.at pushed.slot ≡ None
-JudgesSlot (Err fault) side pool named earlier pushed = slot_refusal side (seen_of pool named earlier pushed) pushed.at pushed.slot ≡ Some fault
+abbrev pub JudgesSlot : Result ⊤ SlotFault → Side → Bool → ℕ → List ℕ → List ℕ → Pushed → Type 0
+JudgesSlot (Ok _) side closing pool named earlier pushed = slot_refusal side (seen_closing closing pool named earlier pushed) pushed.at pushed.slot ≡ None
+JudgesSlot (Err fault) side closing pool named earlier pushed = slot_refusal side (seen_closing closing pool named earlier pushed) pushed.at pushed.slot ≡ Some fault
 
 -- slots that are judged in their order, and the first refusal of them
 abbrev pub JudgesAll : Result ⊤ SlotFault → Option SyncFault → Type 0
@@ -73,9 +88,10 @@ abbrev pub TellsRefusal : Result ⊤ SyncFault → Option SyncFault → Type 0
 TellsRefusal (Ok _) refusal = refusal ≡ None
 TellsRefusal (Err fault) refusal = refusal ≡ Some fault
 
--- a check of a port's ring at its own head and cur answers what refuses a sync of it
-abbrev pub TellsCheck : Result ⊤ SyncFault → HoldState → PortId → RingSlots → Type 0
-TellsCheck result h id r = (named : List ℕ) → AreNamed h named → TellsRefusal result (refusal_of r.side (buffers_of h) named r.ring (pushed_seen h id r))
+-- a check of a port's ring at its own head and cur answers what refuses a sync of it; `whole` says that
+-- each of its slots is a frame
+abbrev pub TellsCheck : Result ⊤ SyncFault → HoldState → PortId → RingSlots → Bool → Type 0
+TellsCheck result h id r whole = (named : List ℕ) → AreNamed h named → TellsRefusal result (refusal_of r.side whole (buffers_of h) named r.ring (pushed_seen h id r))
 
 -- neither the marks nor the length of a transmit slot refuse it
 pub record IsPlain (slot : SlotState) : Type 0 where

@@ -12,9 +12,9 @@ pub use Rattle.nm_types.specs.Places.{is_same_place}
 pub use Rattle.nm_types.specs.Positions.{FitsRing, IsRing, IsRingSize, dist, is_user_slot}
 pub use Rattle.nm_types.specs.Positions.{opened_rx, opened_tx, slots_from, step_on}
 pub use Rattle.nm_types.specs.Reset.{reset_positions}
-pub use Rattle.nm_types.specs.Slots.{SlotState, frame_at, has_flag, no_learn, published_slot}
+pub use Rattle.nm_types.specs.Slots.{SlotState, frame_at, goes_on, has_flag, no_learn, part_flags, published_slot}
 pub use Rattle.nm_types.specs.Slots.{pushed_names, slot_after_push}
-pub use Rattle.nm_types.specs.SyncChecks.{is_tx, refusal_of, slots_refusal}
+pub use Rattle.nm_types.specs.SyncChecks.{begun_after, is_tx, refusal_of, slots_refusal}
 pub use Rattle.nm_types.specs.SyncFaults.{ring_sync_fault, slot_sync_fault}
 pub use Rattle.nm_types.specs.declared.id.PortId.{PortId}
 pub use Rattle.nm_types.specs.declared.id.Side.TheVariants.{Rx, Tx}

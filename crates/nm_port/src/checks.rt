@@ -1,12 +1,13 @@
-ghost use Rattle.std.specs.Prelude.{ℕ, List, ◌≡◌, ◌<◌, ◌≤◌, ◌++◌, ◌∷◌, [], IfOk, IfErr, OnOk};
+ghost use Rattle.std.specs.Prelude.{ℕ, Bool, List, ◌≡◌, ◌<◌, ◌≤◌, ◌^◌, ◌++◌, ◌∷◌, [], IfOk, IfErr, OnOk};
 ghost use Rattle.std.specs.Prelude.{OnErr, MatchResult};
 ghost use Rattle.std.specs.Prelude.{None, Some, true, false, length, replicate, slice_index_or};
 ghost use Rattle.std.specs.Prelude.{slice_set, ◌+◌};
-ghost use Rattle.nm_port.specs.Words.{FitsRing, IsHold, blank_slot, buffers_of, is_named_at, is_tx};
+ghost use Rattle.nm_port.specs.Words.{FitsRing, IsHold, begun_after, blank_slot, buffers_of};
+ghost use Rattle.nm_port.specs.Words.{is_named_at, is_tx};
 ghost use Rattle.nm_port.specs.Words.{is_user_slot, pushed_names, slots_refusal};
 ghost use Rattle.nm_port.specs.Sides.{place_on, number_at, pushed_seen_at, pushed_seen};
 ghost use Rattle.nm_port.specs.Sides.{names_pushed, AreNamed, AreMarked, AreMarkedOf, AreCleared};
-ghost use Rattle.nm_port.specs.Sides.{JudgesSlot, JudgesAll, TellsCheck, marks_after};
+ghost use Rattle.nm_port.specs.Sides.{JudgesSlot, JudgesAll, TellsCheck, closes, marks_after};
 ghost use Rattle.nm_port.specs.Sides.{HaveNamed, IsPlain};
 ghost use Rattle.nm_port.specs.Exchanges.{pushed_count_of, user_position};
 ghost use Rattle.nm_port.specs.RingSlots.{IsRingSlots, slot_at};
@@ -14,10 +15,13 @@ ghost use Rattle.nm_port.specs.RingSlots.{IsRingSlots, slot_at};
 use crate::kept::ring_matches;
 use crate::marks::Marks;
 use crate::slot_ring::SlotRing;
+use crate::slots::goes_on;
 use bitflags::Flags;
 use nm_hold::Hold;
 use nm_slot::judge;
-use nm_types::{BUFFER_BYTES, Place, PortId, Seen, Side, Slot, SlotFault, SlotFlags, SyncFault};
+use nm_types::{
+    BUFFER_BYTES, MAX_FRAME_SLOTS, Place, PortId, Seen, Side, Slot, SlotFault, SlotFlags, SyncFault,
+};
 
 /// The place of a slot.
 pub(crate) fn place_on(side: Side, port: PortId, slot: u32) -> Place
@@ -37,12 +41,13 @@ pub fn number_at(hold: &Hold, place: Place) -> u32
 }
 
 /// What a sync knows of a pushed slot. `marks` has each index that an earlier slot names.
-fn seen_at(hold: &Hold, place: Place, idx: u32, marks: &Marks) -> Seen
+fn seen_at(hold: &Hold, place: Place, idx: u32, closing: bool, marks: &Marks) -> Seen
     requires { length marks.now ≡ buffers_of hold.now + 2 }
     ensures was { result.was ≡ number_at hold.now place }
     ensures top { result.top ≡ buffers_of hold.now + 1 }
     ensures held { result.held ≡ is_named_at hold.now idx }
     ensures doubled { result.doubled ≡ slice_index_or marks.now idx false }
+    ensures closing { result.closing ≡ closing }
     ensures hold { IsHold hold.now }
 {
     let held = hold.named(idx);
@@ -52,7 +57,25 @@ fn seen_at(hold: &Hold, place: Place, idx: u32, marks: &Marks) -> Seen
         top,
         held,
         doubled: marks.is_marked(idx),
+        closing,
     }
+}
+
+/// Whether a frame must end in a slot behind which `left` are pushed, and before which `begun` are of
+/// the same frame.
+fn is_closing(whole: bool, left: u32, begun: u32) -> bool
+    requires { begun < 2 ^ 31 }
+    ensures { result ≡ closes whole left begun }
+{
+    whole || left == 0 || begun + 1 == MAX_FRAME_SLOTS
+}
+
+/// How many slots of the frame that goes on there are behind a slot.
+fn begun_after(begun: u32, slot: &Slot) -> u32
+    requires { begun < 2 ^ 31 }
+    ensures { result ≡ begun_after begun slot.now }
+{
+    if goes_on(slot) { begun + 1 } else { 0 }
 }
 
 /// Judges the pushed slot at a position, and marks the buffer that it names if it passes.
@@ -61,18 +84,20 @@ fn judge_slot(
     port: PortId,
     ring: &SlotRing,
     at: u32,
+    closing: bool,
     marks: &mut Marks,
 ) -> Result<(), SlotFault>
     requires user { is_user_slot ring.now.ring at ≡ true }
     requires marks { length marks.old ≡ buffers_of hold.now + 2 }
     ensures refusal { (named earlier : List ℕ) → AreNamed hold.now named
         → AreMarked marks.old earlier
-        → JudgesSlot result ring.now.side (buffers_of hold.now) named earlier
+        → JudgesSlot result ring.now.side closing (buffers_of hold.now) named earlier
         (pushed_seen_at hold.now port ring.now at) }
     ensures marks { marks.new ≡ marks_after result marks.old (slot_at ring.now at).buf_idx }
 {
     let slot = ring.user_slot(at);
-    let seen = seen_at(hold, place_on(ring.side(), port, at), slot.buf_idx, marks);
+    let place = place_on(ring.side(), port, at);
+    let seen = seen_at(hold, place, slot.buf_idx, closing, marks);
     judge(at, &slot, &seen, ring.side())?;
     marks.mark(slot.buf_idx);
     Ok(())
@@ -84,20 +109,25 @@ fn judge_pushed(
     hold: &Hold,
     port: PortId,
     ring: &SlotRing,
+    whole: bool,
     marks: &mut Marks,
 ) -> Result<(), SlotFault>
     requires fits { FitsRing ring.now.ring ring.now.ring.head ring.now.ring.cur }
     requires blank { marks.old ≡ replicate (buffers_of hold.now + 2) false }
     ensures refusal { (named : List ℕ) → AreNamed hold.now named
-        → JudgesAll result (slots_refusal ring.now.side (buffers_of hold.now) named []
+        → JudgesAll result (slots_refusal ring.now.side whole (buffers_of hold.now) named [] 0
         (pushed_seen hold.now port ring.now)) }
     ensures count { length marks.new ≡ length marks.old }
     ensures marks { AreMarkedOf marks.new (pushed_names (pushed_seen hold.now port ring.now)) }
 {
     let (first, count) = ring.pushed();
     let size = ring.ring().size();
+    let mut begun = 0;
     for k in 0..count {
-        judge_slot(hold, port, ring, (first + k) % size, marks)?;
+        let at = (first + k) % size;
+        let closing = is_closing(whole, count - 1 - k, begun);
+        judge_slot(hold, port, ring, at, closing, marks)?;
+        begun = begun_after(begun, &ring.user_slot(at));
     }
     Ok(())
 }
@@ -158,8 +188,8 @@ fn is_plain_on(ring: &SlotRing) -> bool
 fn all_keep(hold: &Hold, port: PortId, ring: &SlotRing) -> bool
     requires fits { FitsRing ring.now.ring ring.now.ring.head ring.now.ring.cur }
     requires named { HaveNamed hold.now port ring.now }
-    ensures { result ≡ true → (named : List ℕ) → AreNamed hold.now named
-        → slots_refusal ring.now.side (buffers_of hold.now) named []
+    ensures { result ≡ true → (whole : Bool) (named : List ℕ) → AreNamed hold.now named
+        → slots_refusal ring.now.side whole (buffers_of hold.now) named [] 0
         (pushed_seen hold.now port ring.now) ≡ None }
 {
     match hold.numbers(port, ring.side()) {
@@ -181,21 +211,23 @@ fn clear_marks(ring: &SlotRing, marks: &mut Marks)
     }
 }
 
-/// The first check that refuses a sync of a port's ring at its own head and cur. `marks` is blank.
+/// The first check that refuses a sync of a port's ring at its own head and cur. `whole` says that each
+/// slot is a frame, as at a pipe's end. `marks` is blank.
 pub fn check_ring(
     hold: &Hold,
     port: PortId,
     ring: &SlotRing,
+    whole: bool,
     marks: &mut Marks,
 ) -> Result<(), SyncFault>
     requires { marks.old ≡ replicate (buffers_of hold.now + 2) false }
-    ensures refusal { TellsCheck result hold.now port ring.now }
+    ensures refusal { TellsCheck result hold.now port ring.now whole }
     ensures same { marks.new ≡ marks.old }
     ensures slots { IsRingSlots ring.now }
 {
     let positions = ring.ring();
     positions.check(positions.head(), positions.cur())?;
-    let judged = judge_pushed(hold, port, ring, marks);
+    let judged = judge_pushed(hold, port, ring, whole, marks);
     clear_marks(ring, marks);
     Ok(judged?)
 }
@@ -206,11 +238,12 @@ pub fn check_named_ring(
     hold: &Hold,
     port: PortId,
     ring: &SlotRing,
+    whole: bool,
     marks: &mut Marks,
 ) -> Result<(), SyncFault>
     requires blank { marks.old ≡ replicate (buffers_of hold.now + 2) false }
     requires named { HaveNamed hold.now port ring.now }
-    ensures refusal { TellsCheck result hold.now port ring.now }
+    ensures refusal { TellsCheck result hold.now port ring.now whole }
     ensures same { marks.new ≡ marks.old }
     ensures slots { IsRingSlots ring.now }
 {
@@ -219,5 +252,5 @@ pub fn check_named_ring(
     if all_keep(hold, port, ring) {
         return Ok(());
     }
-    check_ring(hold, port, ring, marks)
+    check_ring(hold, port, ring, whole, marks)
 }

@@ -1,4 +1,5 @@
 ghost use Rattle.std.specs.Prelude.{ℕ, ◌≡◌, ◌<◌, ◌≤◌, ◌+◌, [], Some, length, map, position, IsSome};
+ghost use Rattle.nm_types.specs.Limits.{most_extra, most_ring};
 ghost use Rattle.nm_port.specs.Words.{ArePortsOnce, IsHold, IsRing, chain_of, extras_of, index_at};
 ghost use Rattle.nm_port.specs.Words.{link_at, vec_capacity};
 ghost use Rattle.nm_port.specs.Own.{size_if, port_at, places_of_port, HasBackRoom};
@@ -15,7 +16,7 @@ impl UserPort {
     /// The number of transmit slots.
     fn slot_count(&self) -> u32
         ensures count { result ≡ size_if self.now.tx }
-        ensures small { result ≤ 1024 }
+        ensures small { result ≤ most_ring }
     {
         match &self.tx {
             Some(ring) => ring.ring().size(),
@@ -25,7 +26,7 @@ impl UserPort {
 
     /// The number of places that hold a buffer.
     pub fn place_count(&self) -> u32
-        requires { self.now.extra ≤ 1024 }
+        requires { self.now.extra ≤ most_extra }
         ensures { result ≡ place_count self.now }
     {
         let (_, received) = self.rx.ring().user_range();
@@ -77,7 +78,7 @@ pub fn take_port(ports: &mut Vec<UserPort>, port: PortId) -> UserPort
 pub fn empty_port(hold: &mut Hold, mut port: UserPort) -> (Vec<Buf>, Chain)
     requires hold { IsHold hold.old }
     requires ring { IsRing port.rx.ring }
-    requires extra { port.extra ≤ 1024 }
+    requires extra { port.extra ≤ most_extra }
     requires held { (k : ℕ) → k < place_count port
         → IsSome (index_at hold.old (held_place port k)) }
     requires room { HasBackRoom port }
@@ -96,7 +97,7 @@ pub fn empty_port(hold: &mut Hold, mut port: UserPort) -> (Vec<Buf>, Chain)
 fn take_all(hold: &mut Hold, port: &UserPort, back: &mut Vec<Buf>)
     requires hold { IsHold hold.old }
     requires ring { IsRing port.now.rx.ring }
-    requires extra { port.now.extra ≤ 1024 }
+    requires extra { port.now.extra ≤ most_extra }
     requires held { (k : ℕ) → k < place_count port.now
         → IsSome (index_at hold.old (held_place port.now k)) }
     requires room { length back.old.items + place_count port.now ≤ vec_capacity back.old }

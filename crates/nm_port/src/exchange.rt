@@ -1,4 +1,5 @@
 ghost use Rattle.std.specs.Prelude.{ℕ, ◌≡◌, ◌<◌, ◌≤◌, IsSome, map};
+ghost use Rattle.nm_types.specs.Limits.{most_ring};
 ghost use Rattle.nm_port.specs.Words.{AllByRecursion, IsHold, IsRing, PortId, Tx, index_at};
 ghost use Rattle.nm_port.specs.Words.{step_on};
 ghost use Rattle.nm_types.specs.declared.place.Place.TheVariants as place;
@@ -31,7 +32,7 @@ pub(crate) fn exchange_pushed(hold: &mut Hold, port: PortId, ring: &SlotRing)
 /// Makes the buffers in the places of some transmit slots named ones, or ones that are not named.
 pub fn name_slots(hold: &mut Hold, port: PortId, size: u32, first: u32, count: u32, named: bool)
     requires hold { IsHold hold.old }
-    requires size { size ≤ 1024 }
+    requires size { size ≤ most_ring }
     requires first { first < size }
     requires count { count ≤ size }
     requires held { (at : ℕ) → at < size → IsSome (index_at hold.old (place.Tx port at)) }

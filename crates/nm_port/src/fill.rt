@@ -1,4 +1,5 @@
 ghost use Rattle.std.specs.Prelude.{ℕ, ◌≡◌, ◌<◌, ◌≤◌, None, Some, length, nat_eq, true};
+ghost use Rattle.nm_types.specs.Limits.{most_ring};
 ghost use Rattle.nm_port.specs.Words.{AllByRecursion, IsBufferIndex, IsDistinct, IsHold, Place};
 ghost use Rattle.nm_port.specs.Words.{buffers_of, has_place, index_at, indices_of, is_same_place};
 ghost use Rattle.nm_port.specs.Words.{standing_at, with_cell};
@@ -65,7 +66,7 @@ pub fn fill(hold: &mut Hold, port: PortId, row: Row, named: u32, all: Vec<Buf>)
     requires empty { (at : ℕ) → index_at hold.old (place_in port row at) ≡ None }
     requires away { AllByRecursion (IsAway hold.old) (indices_of all.items) }
     requires once { IsDistinct nat_eq (indices_of all.items) }
-    requires few { length all.items ≤ 1024 }
+    requires few { length all.items ≤ most_ring }
     ensures filled { AreFilledWith hold.old hold.new port row named 0 (indices_of all.items) }
     ensures region { (region : ℕ) → AreOf region all.items → HoldsOf region hold.old
         → HoldsOf region hold.new }

@@ -1,11 +1,13 @@
-ghost use Rattle.std.specs.Prelude.{◌≡◌, ◌++◌, IfOk, OnOk, map, take, []};
-ghost use Rattle.nm_port.specs.Words.{FitsRing, frame_at, has_flag, no_learn};
+ghost use Rattle.std.specs.Prelude.{◌≡◌, ◌<◌, IfOk, OnOk, false, length, take, true, []};
+ghost use Rattle.nm_port.specs.Words.{FitsRing, has_flag, no_learn};
+ghost use Rattle.nm_port.specs.Gathered.{gathered, goes_on_behind, slots_pushed, with_gathered};
 ghost use Rattle.nm_port.specs.Sides.{names_pushed};
 ghost use Rattle.nm_port.specs.Own.{bytes_in_hold, frames_seen};
 ghost use Rattle.nm_port.specs.Offers.{offers_seen, lengths_seen};
 
 use crate::kept::note_first;
 use crate::slot_ring::SlotRing;
+use crate::slots::goes_on;
 use bitflags::Flags;
 use nm_hold::Hold;
 use nm_types::{BUFFER_BYTES, Batch, NoMemory, Slot, SlotFlags};
@@ -25,7 +27,7 @@ fn frame_bytes<'a>(hold: &'a Hold, slot: &Slot) -> &'a [u8]
 }
 
 /// Whether the switch is not to learn the source of a slot's frame.
-fn is_not_learned(slot: &Slot) -> bool
+pub fn is_not_learned(slot: &Slot) -> bool
     ensures { result ≡ has_flag no_learn slot.now }
 {
     SlotFlags::from_bits_retain(slot.flags).contains(SlotFlags::NO_LEARN)
@@ -44,29 +46,58 @@ fn batch_for(alloc: Global, count: u32, slot: &Slot) -> Result<Batch, NoMemory>
     Ok(batch)
 }
 
-/// Adds the frames of slots.
-#[inline(never)]
-fn gather_slots(hold: &Hold, slots: &[Slot], batch: &mut Batch) -> Result<(), NoMemory>
-    ensures { OnOk result (batch.new
-        ≡ batch.old ++ map (frame_at (bytes_in_hold hold.now)) slots.now) }
+/// Adds the bytes of a slot: to the last frame, if that goes on, or as a frame that begins there.
+#[inline(always)]
+#[tactic(auto, using(crate::proofs::Gathering::gathering))]
+fn gather_slot(hold: &Hold, slot: &Slot, begun: bool, batch: &mut Batch) -> Result<(), NoMemory>
+    requires { begun ≡ true → 0 < length batch.old }
+    ensures frames { OnOk result (batch.new
+        ≡ with_gathered (bytes_in_hold hold.now) batch.old begun slot.now) }
+    ensures some { OnOk result (0 < length batch.new) }
 {
-    for slot in slots {
-        batch.push(frame_bytes(hold, slot), is_not_learned(slot))?;
+    let bytes = frame_bytes(hold, slot);
+    if begun {
+        batch.extend_last(bytes)
+    } else {
+        batch.push(bytes, is_not_learned(slot))
     }
-    Ok(())
 }
 
-/// The frames of the pushed slots.
+/// Adds the frames of slots. Returns whether the last of them goes on.
+#[inline(never)]
+fn gather_slots(
+    hold: &Hold,
+    slots: &[Slot],
+    begun: bool,
+    batch: &mut Batch,
+) -> Result<bool, NoMemory>
+    requires { begun ≡ true → 0 < length batch.old }
+    ensures frames { OnOk result (batch.new
+        ≡ gathered (bytes_in_hold hold.now) batch.old begun slots.now) }
+    ensures begun { IfOk result (λ goes_on. goes_on ≡ goes_on_behind begun slots.now) }
+    ensures some { IfOk result (λ goes_on. goes_on ≡ true → 0 < length batch.new) }
+{
+    let mut open = begun;
+    for i in 0..slots.len() {
+        gather_slot(hold, &slots[i], open, batch)?;
+        open = goes_on(&slots[i]);
+    }
+    Ok(open)
+}
+
+/// The frames of the pushed slots, all of which end there.
 pub fn gather(alloc: Global, hold: &Hold, ring: &SlotRing) -> Result<Batch, NoMemory>
-    requires { FitsRing ring.now.ring ring.now.ring.head ring.now.ring.cur }
+    requires fits { FitsRing ring.now.ring ring.now.ring.head ring.now.ring.cur }
+    requires whole { goes_on_behind false (slots_pushed ring.now) ≡ false }
     ensures { IfOk result (λ batch. batch ≡ frames_seen hold.now ring.now) }
 {
     let (first, count) = ring.pushed();
     let mut batch = batch_for(alloc, count, &ring.any_slot(first))?;
+    let mut begun = false;
     let mut k = 0;
     while k < count {
         let slots = ring.side_by_side(k, count - k);
-        gather_slots(hold, slots, &mut batch)?;
+        begun = gather_slots(hold, slots, begun, &mut batch)?;
         k += slots.len() as u32;
     }
     Ok(batch)

@@ -22,3 +22,4 @@ pub use buf_room::BufRoom;
 pub use marks::Marks;
 pub use port::UserPort;
 pub use slot_ring::SlotRing;
+pub use slots::goes_on;

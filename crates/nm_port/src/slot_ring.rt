@@ -5,16 +5,20 @@ ghost use Rattle.nm_port.specs.Words.{FitsRing, IsRing, IsRingSize, Rx, Tx, acce
 ghost use Rattle.nm_port.specs.Words.{deque_capacity, dist, index_of, indices_of, is_user_slot};
 ghost use Rattle.nm_port.specs.Words.{opened_rx, opened_slot, opened_tx, option_copied};
 ghost use Rattle.nm_port.specs.Words.{option_copied_mut, published_slot, reset_positions, sem};
-ghost use Rattle.nm_port.specs.Words.{slots_after_push, step_on};
+ghost use Rattle.nm_port.specs.Words.{slots_after_push, slots_from, step_on};
 ghost use Rattle.nm_port.specs.RingSlots.{RingSlots, IsRingSlots, slot_of_user};
 ghost use Rattle.nm_port.specs.RingSlots.{with_slot_of_user, with_slot_reset_at, at_positions};
 ghost use Rattle.nm_port.specs.RingSlots.{slot_at, with_slot_at, both_stepped, head_stepped};
-ghost use Rattle.nm_port.specs.RingSlots.{slot_framed, head_has_slot, slots_ahead, count_behind_tail};
+ghost use Rattle.nm_port.specs.RingSlots.{slot_framed, slot_going_on, slots_to_end, frame_ahead};
+ghost use Rattle.nm_port.specs.RingSlots.{head_has_slot, slots_ahead, count_behind_tail};
 ghost use Rattle.nm_port.specs.RingSlots.{AreSideBySide};
 ghost use Rattle.nm_port.specs.Exchanges.{CanPushOut, ring_pushed_out, user_position};
 ghost use Rattle.nm_port.specs.Receives.{has_free_slot};
 
-use crate::slots::{BLANK, any_announces, clear_if_announced, drop_front, framed, opened_slots};
+use crate::slots::{
+    BLANK, any_announces, clear_if_announced, drop_front, framed, goes_on, going_on, opened_slots,
+    part_flags,
+};
 use nm_hold::step_on;
 use nm_region::Buf;
 use nm_ring::Ring;
@@ -146,6 +150,35 @@ impl SlotRing {
         }
     }
 
+    /// How many of `count` slots from a position on there are up to the first in which a frame ends; 0
+    /// if none does.
+    fn slots_to_end(&self, first: u32, count: u32) -> u32
+        requires first { first < self.now.ring.size }
+        requires count { count < self.now.ring.size }
+        ensures { result
+            ≡ slots_to_end (map (slot_at self.now) (slots_from self.now.ring.size first count)) }
+    {
+        let size = self.ring.size();
+        for k in 0..count {
+            if !goes_on(&self.any_slot((first + k) % size)) {
+                return k + 1;
+            }
+        }
+        0
+    }
+
+    /// How many slots the frame at the head has; 0 if the positions do not fit, or if it does not end
+    /// before the tail.
+    pub fn frame_ahead(&self) -> u32
+        ensures { result ≡ frame_ahead self.now }
+    {
+        let (head, tail) = (self.ring.head(), self.ring.tail());
+        match self.ring.check(head, self.ring.cur()) {
+            Ok(()) => self.slots_to_end(head, dist(self.ring.size(), head, tail)),
+            Err(_) => 0,
+        }
+    }
+
     /// Whether the positions fit, the head is accepted, and a slot is left for a frame that comes.
     pub fn has_free_slot(&self) -> bool
         ensures { result ≡ has_free_slot self.now.ring }
@@ -207,6 +240,16 @@ impl SlotRing {
         self.put_positions(head, cur);
     }
 
+    /// Writes the slot at the head, and moves head and cur to the next position.
+    fn put_at_head(&mut self, slot: Slot)
+        ensures { self.new ≡ head_stepped (with_slot_at self.old.ring.head slot self.old) }
+    {
+        let at = self.ring.head();
+        self.put_any_slot(at, slot);
+        let next = self.next(self.ring.head());
+        self.put_positions(next, next);
+    }
+
     /// Writes the length of a frame to the slot at the head, clears the marks of a former frame
     /// there, and moves head and cur to the next position.
     pub fn put_frame(&mut self, len: u16)
@@ -214,10 +257,17 @@ impl SlotRing {
             (slot_framed len (slot_at self.old self.old.ring.head)) self.old) }
     {
         let slot = framed(self.head_slot(), len);
-        let at = self.ring.head();
-        self.put_any_slot(at, slot);
-        let next = self.next(self.ring.head());
-        self.put_positions(next, next);
+        self.put_at_head(slot);
+    }
+
+    /// Does what `put_frame` does with a part of a frame, behind which others follow: the slot says
+    /// that its frame goes on.
+    pub fn put_part(&mut self, len: u16)
+        ensures { self.new ≡ head_stepped (with_slot_at self.old.ring.head
+            (slot_going_on len (slot_at self.old self.old.ring.head)) self.old) }
+    {
+        let slot = going_on(self.head_slot(), len);
+        self.put_at_head(slot);
     }
 
     /// Does what `put_frame` does, on a transmit ring that has a slot at its head. Answers the buffer
@@ -418,15 +468,16 @@ impl SlotRing {
         accept(&mut self.ring);
     }
 
-    /// Publishes a received frame in the slot at the tail of a receive ring whose head is accepted.
-    pub fn publish(&mut self, buffer: u32, len: u16)
+    /// Publishes a part of a received frame, behind which `rest` parts follow, in the slot at the tail of
+    /// a receive ring whose head is accepted.
+    pub fn publish(&mut self, buffer: u32, len: u16, rest: u8)
         requires side { self.old.side ≡ Rx }
         requires fits { FitsRing self.old.ring self.old.ring.head self.old.ring.cur }
         requires accepted { self.old.ring.accepted_head ≡ self.old.ring.head }
         requires room { 0 < count_behind_tail self.old.ring }
         ensures { self.new ≡ record self.old {
           ring = accepted 1 self.old.ring;
-          slots = self.old.slots ++ published_slot buffer len ∷ [];
+          slots = self.old.slots ++ published_slot buffer len rest ∷ [];
         } }
     {
         let tail = step_on(self.ring.size(), self.ring.tail(), 1);
@@ -434,7 +485,7 @@ impl SlotRing {
         self.slots.push_back_reserved(Slot {
             buf_idx: buffer,
             len,
-            flags: 0,
+            flags: part_flags(rest),
             ptr: 0,
         });
     }

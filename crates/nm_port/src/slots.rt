@@ -1,8 +1,10 @@
 ghost use Rattle.std.specs.Prelude.{ℕ, ◌≡◌, ◌<◌, ◌≤◌, [], drop, false, fold, length, map};
 ghost use Rattle.std.specs.Prelude.{slice_index_or};
-ghost use Rattle.nm_port.specs.Words.{blank_slot, deque_capacity, indices_of, opened_slot};
+ghost use Rattle.nm_types.specs.Limits.{most_ring};
+ghost use Rattle.nm_port.specs.Words.{blank_slot, deque_capacity, goes_on, indices_of, opened_slot};
+ghost use Rattle.nm_port.specs.Words.{part_flags};
 ghost use Rattle.nm_port.specs.Words.{slot_after_push, slots_from, with_push_cleared};
-ghost use Rattle.nm_port.specs.RingSlots.{slot_framed};
+ghost use Rattle.nm_port.specs.RingSlots.{slot_framed, slot_going_on};
 
 use bitflags::Flags;
 use nm_hold::step_on;
@@ -32,6 +34,36 @@ pub(crate) fn framed(slot: Slot, len: u16) -> Slot
         len,
         flags: flags.difference(FRAME_MARKS).bits(),
         ..slot
+    }
+}
+
+/// A slot with a part of a frame of that length, behind which others follow, and no other mark of a
+/// former frame.
+pub(crate) fn going_on(slot: Slot, len: u16) -> Slot
+    ensures { result ≡ slot_going_on len slot }
+{
+    let slot = framed(slot, len);
+    Slot {
+        flags: slot.flags | SlotFlags::MORE_FRAGMENTS.0,
+        ..slot
+    }
+}
+
+/// Whether the frame of a slot goes on in the next one.
+pub fn goes_on(slot: &Slot) -> bool
+    ensures { result ≡ goes_on slot.now }
+{
+    SlotFlags::from_bits_retain(slot.flags).contains(SlotFlags::MORE_FRAGMENTS)
+}
+
+/// The flags of a slot with a part of a received frame, behind which `rest` parts follow.
+pub(crate) fn part_flags(rest: u8) -> u16
+    ensures { result ≡ part_flags rest }
+{
+    if rest == 0 {
+        0
+    } else {
+        SlotFlags::MORE_FRAGMENTS.bits() + 256 * u16::from(rest)
     }
 }
 
@@ -70,7 +102,7 @@ pub(crate) fn clear_if_announced(
     announced: bool,
 )
     requires size { length slots.old.items ≡ size }
-    requires few { size ≤ 1024 }
+    requires few { size ≤ most_ring }
     requires first { first < size }
     requires count { count < size }
     requires none { announced ≡ false
@@ -87,7 +119,7 @@ pub(crate) fn clear_if_announced(
 /// Clears the announcements of `count` slots from a position on, going round.
 fn clear_announcements(slots: &mut VecDeque<Slot>, size: u32, first: u32, count: u32)
     requires size { length slots.old.items ≡ size }
-    requires few { size ≤ 1024 }
+    requires few { size ≤ most_ring }
     requires first { first < size }
     requires count { count < size }
     ensures slots { slots.new.items

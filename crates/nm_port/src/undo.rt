@@ -1,5 +1,6 @@
 ghost use Rattle.std.specs.Prelude.{ℕ, ◌≡◌, ◌<◌, ◌≤◌, ◌+◌, [], length, map, reverse, drop};
 ghost use Rattle.std.specs.Prelude.{Some, IsSome, nat_le};
+ghost use Rattle.nm_types.specs.Limits.{most_ring};
 ghost use Rattle.nm_port.specs.Words.{HoldState, IsHold, IsRing, index_at, slots_from};
 ghost use Rattle.nm_port.specs.Words.{vec_capacity};
 ghost use Rattle.nm_port.specs.Sides.{place_on};
@@ -69,7 +70,7 @@ pub fn exchange_noted(hold: &mut Hold, port: PortId, ring: &SlotRing, was: &mut 
 pub fn exchange_back(hold: &mut Hold, port: PortId, ring: &SlotRing, mut was: Vec<u32>)
     requires ring { IsRing ring.now.ring }
     requires head { ring.now.ring.head < ring.now.ring.size }
-    requires few { length was.items ≤ 1024 }
+    requires few { length was.items ≤ most_ring }
     requires swapped { (h : HoldState) × AreSwapped h port ring.now (reverse was.items) hold.old }
     ensures { (h : HoldState) → AreSwapped h port ring.now (reverse was.items) hold.old
         → hold.new ≡ h }
@@ -93,7 +94,7 @@ pub fn take_slots(
     back: &mut Vec<Buf>,
 )
     requires hold { IsHold hold.old }
-    requires size { size ≤ 1024 }
+    requires size { size ≤ most_ring }
     requires first { first < size }
     requires count { count ≤ size }
     requires held { (k : ℕ) → k < count → IsSome (index_at hold.old (place_of_run
@@ -127,9 +128,9 @@ pub fn put_slots(
     unnamed: u32,
     bufs: &mut Vec<Buf>,
 )
-    requires size { size ≤ 1024 }
+    requires size { size ≤ most_ring }
     requires first { first < size }
-    requires few { length bufs.old.items ≤ 1024 }
+    requires few { length bufs.old.items ≤ most_ring }
     requires out { (h : HoldState) × AreOut h
         (record { id = port; side = side; size = size; first = first }) unnamed
         (reverse bufs.old.items) hold.old }

@@ -1,4 +1,5 @@
 ghost use Rattle.std.specs.Prelude.{◌≡◌, ◌+◌, ◌*◌, ◌<◌, ◌≤◌, ℕ, List, Bool, true, false, [], length, replicate, get_or, slice_set, IfSome};
+ghost use Rattle.nm_types.specs.Limits.{most_pool};
 ghost use denote.RawPtr.{Ptr, block_ptr, block_of, count_of, ◌+ₚ◌};
 ghost use Rattle.nm_region.specs.Parts.{bytes_of, lead, parts_at, IsBlock};
 
@@ -45,7 +46,7 @@ unsafe impl<A: Allocator + Send> Send for Deed<A> {}
 impl Block {
     /// A block of so many parts, none of which is written. All of them are at home.
     pub(crate) fn new<A: Allocator>(alloc: &A, parts: usize) -> Option<(Block, Deed<A>)>
-        requires { parts ≤ 65536 }
+        requires { parts ≤ most_pool }
         ensures { IfSome result (λ made.
             (made.0.home ≡ replicate parts true)
             × (made.0.start ≡ block_ptr (block_of made.0.start) (count_of made.0.start))

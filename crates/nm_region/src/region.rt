@@ -1,6 +1,7 @@
 ghost use Rattle.std.specs.Prelude.{◌≡◌, ◌≤◌, ◌-◌, true, [], length, map, replicate, slice_set, IfOk};
 ghost use Rattle.std.specs.List.{range_with_len};
 ghost use Rattle.std.specs.Vec.{vec_capacity};
+ghost use Rattle.nm_types.specs.Limits.{most_pool};
 ghost use denote.RawPtr.{block_of};
 ghost use Rattle.nm_types.specs.Buffers.{IsPoolSize};
 ghost use Rattle.nm_region.specs.Buffers.{opened_buffer};
@@ -83,7 +84,7 @@ impl Region {
 fn cut_all(mut block: Block, mut all: Vec<Buf>, n: u32) -> (Block, Vec<Buf>)
     requires home { block.home ≡ replicate n true }
     requires whole { IsWhole (block_of block.start) block.start }
-    requires few { n ≤ 65536 }
+    requires few { n ≤ most_pool }
     requires none { all.items ≡ [] }
     requires room { n ≤ vec_capacity all }
     ensures start { result.0.start ≡ block.start }

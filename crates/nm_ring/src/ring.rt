@@ -7,7 +7,7 @@ ghost use Rattle.nm_types.specs.Reset.{reset_positions};
 use nm_types::RingFault;
 use std::marker::Model;
 
-/// The positions of a ring of 2 to 1024 slots. The user writes head and cur, which may be any
+/// The positions of a ring of 2 to 4096 slots. The user writes head and cur, which may be any
 /// numbers; the tail is the kernel side's, which keeps the last accepted head and the last tail.
 #[derive(Clone, Copy, PartialEq, Eq)]
 pub struct Ring {

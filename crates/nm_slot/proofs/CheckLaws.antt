@@ -9,11 +9,12 @@ use Rattle.nm_types.specs.declared.refusal.SlotFault.TheVariants.{Indirect, Inde
 use Rattle.nm_types.specs.Positions.{RingState, FitsRing}
 use Rattle.nm_types.specs.Slots.{Pushed}
 use Rattle.nm_types.specs.SyncFaults.{is_check_fault, ring_sync_fault, slot_sync_fault}
-use Rattle.nm_types.specs.SyncChecks.{is_beyond, ring_refusal, slot_refusal, slots_refusal, first_refusal, seen_of}
+use Rattle.nm_types.specs.SyncChecks.{is_beyond, ring_refusal, slot_refusal, slots_refusal, first_refusal, seen_of, begun_after, EachPasses}
 use Rattle.nm_types.proofs.RingChecks.{is_beyond-not, Fits-from_beyond}
 use Rattle.nm_types.proofs.SlotChecks.{first_none, later_none, EachPasses-from_none, slots_refusal-passes, NamesOnce-from_passes}
+use Rattle.nm_types.proofs.JoinedFrames.{passed-sent, passed-each}
 use Rattle.nm_types.proofs.Exchanges.{exchanged_here, exchanged_there, exchanged_stays, EachBufferOnce-exchanged, pushed_hold_names}
-use Rattle.nm_slot.specs.Laws.{PassedPositionsFit, PassedSlotsPass, FittingPasses, PassedNamesOnce, RefusalsAreChecks, ExchangeBringsNamed, ExchangeGivesBack, ExchangeLeavesOthers, ExchangeKeepsOnce, PushedHoldNames}
+use Rattle.nm_slot.specs.Laws.{PassedPositionsFit, PassedSlotsPass, FittingPasses, PassedNamesOnce, RefusalsAreChecks, PushedFramesAreSent, WholeSlotsAreFrames, ExchangeBringsNamed, ExchangeGivesBack, ExchangeLeavesOthers, ExchangeKeepsOnce, PushedHoldNames}
 
 none_of_two : {A : Type 0} → (a b : Bool) (x y : A) → (if a then Some x else if b then Some y else None) ≡ None → (a ≡ false) × (b ≡ false)
 none_of_two true b x y e = cc
@@ -30,22 +31,22 @@ ring_none ring e =
     no_fault (Some fault) e = cc
 
 pub passed_positions_fit : PassedPositionsFit
-passed_positions_fit side pool named ring pushed passes =
-    ring_none ring (first_none (option_map ring_sync_fault (ring_refusal ring ring.head ring.cur)) (slots_refusal side pool named [] pushed) passes)
+passed_positions_fit side whole pool named ring pushed passes =
+    ring_none ring (first_none (option_map ring_sync_fault (ring_refusal ring ring.head ring.cur)) (slots_refusal side whole pool named [] 0 pushed) passes)
 
 pub passed_slots_pass : PassedSlotsPass
-passed_slots_pass side pool named ring pushed passes =
-    EachPasses-from_none side pool named [] pushed (later_none (option_map ring_sync_fault (ring_refusal ring ring.head ring.cur)) (slots_refusal side pool named [] pushed) passes)
+passed_slots_pass side whole pool named ring pushed passes =
+    EachPasses-from_none side whole pool named [] 0 pushed (later_none (option_map ring_sync_fault (ring_refusal ring ring.head ring.cur)) (slots_refusal side whole pool named [] 0 pushed) passes)
 
 pub fitting_passes : FittingPasses
-fitting_passes side pool named ring pushed fits passes =
+fitting_passes side whole pool named ring pushed fits passes =
     let head = is_beyond-not ring.size ring.accepted_head ring.last_tail ring.head fits.head_within fits.head_reach in
     let cur = is_beyond-not ring.size ring.head ring.last_tail ring.cur fits.cur_within fits.cur_reach in
-    let slots = slots_refusal-passes side pool named [] pushed passes in
+    let slots = slots_refusal-passes side whole pool named [] 0 pushed passes in
     rw (head, cur) slots
 
 pub passed_names_once : PassedNamesOnce
-passed_names_once side pool named pushed passes = NamesOnce-from_passes side pool named [] pushed passes
+passed_names_once side whole pool named pushed passes = NamesOnce-from_passes side whole pool named [] 0 pushed passes
 
 some_check : (this that : SyncFault) → is_check_fault this ≡ true → Some this ≡ Some that → is_check_fault that ≡ true
 some_check this that h e = let same : this ≡ that = cc in rw same at h
@@ -67,18 +68,24 @@ slot_is_check (Some (Unannounced at idx was)) later fault rest e = some_check _ 
 slot_is_check (Some (LongLen at len)) later fault rest e = some_check _ fault refl e
 slot_is_check (Some (Fragment at)) later fault rest e = some_check _ fault refl e
 
-slots_are_checks : (side : Side) (pool : ℕ) (named earlier : List ℕ) (pushed : List Pushed) (fault : SyncFault) → slots_refusal side pool named earlier pushed ≡ Some fault → is_check_fault fault ≡ true
-slots_are_checks side pool named earlier [] fault e = cc
-slots_are_checks side pool named earlier (p ∷ ps) fault e =
-    slot_is_check (slot_refusal side (seen_of pool named earlier p) p.at p.slot) (slots_refusal side pool named (earlier ++ p.slot.buf_idx ∷ []) ps) fault
-    (λ (f : SyncFault) (h : slots_refusal side pool named (earlier ++ p.slot.buf_idx ∷ []) ps ≡ Some f). slots_are_checks side pool named (earlier ++ p.slot.buf_idx ∷ []) ps f h) e
+slots_are_checks : (side : Side) (whole : Bool) (pool : ℕ) (named earlier : List ℕ) (begun : ℕ) (pushed : List Pushed) (fault : SyncFault) → slots_refusal side whole pool named earlier begun pushed ≡ Some fault → is_check_fault fault ≡ true
+slots_are_checks side whole pool named earlier begun [] fault e = cc
+slots_are_checks side whole pool named earlier begun (p ∷ ps) fault e =
+    slot_is_check (slot_refusal side (seen_of whole pool named earlier begun ps p) p.at p.slot) (slots_refusal side whole pool named (earlier ++ p.slot.buf_idx ∷ []) (begun_after begun p.slot) ps) fault
+    (λ (f : SyncFault) (h : slots_refusal side whole pool named (earlier ++ p.slot.buf_idx ∷ []) (begun_after begun p.slot) ps ≡ Some f). slots_are_checks side whole pool named (earlier ++ p.slot.buf_idx ∷ []) (begun_after begun p.slot) ps f h) e
 
 pub refusals_are_checks : RefusalsAreChecks
-refusals_are_checks side pool named ring pushed fault e =
-    ring_is_check (ring_refusal ring ring.head ring.cur) (slots_refusal side pool named [] pushed) fault
-    (λ (f : SyncFault) (h : slots_refusal side pool named [] pushed ≡ Some f). slots_are_checks side pool named [] pushed f h) e
+refusals_are_checks side whole pool named ring pushed fault e =
+    ring_is_check (ring_refusal ring ring.head ring.cur) (slots_refusal side whole pool named [] 0 pushed) fault
+    (λ (f : SyncFault) (h : slots_refusal side whole pool named [] 0 pushed ≡ Some f). slots_are_checks side whole pool named [] 0 pushed f h) e
 
-pub ruleset check_laws = (passed_positions_fit, passed_slots_pass, fitting_passes, passed_names_once, refusals_are_checks)
+pub pushed_frames_are_sent : PushedFramesAreSent
+pushed_frames_are_sent bytes_of whole pool named pushed passes = passed-sent bytes_of whole pool named pushed passes
+
+pub whole_slots_are_frames : WholeSlotsAreFrames
+whole_slots_are_frames bytes_of pool named pushed passes = passed-each bytes_of pool named pushed passes
+
+pub ruleset check_laws = (passed_positions_fit, passed_slots_pass, fitting_passes, passed_names_once, refusals_are_checks, pushed_frames_are_sent, whole_slots_are_frames)
 
 pub exchange_brings_named : ExchangeBringsNamed
 exchange_brings_named held place idx was e = exchanged_here held place idx was e

@@ -1,11 +1,13 @@
 -- Laws of the checks of a sync, and of the exchange that an accepted one makes.
-use Rattle.std.specs.Prelude.{ℕ, ◌≡◌, ◌≢◌, nat_eq, true, List, [], map, Some}
+use Rattle.std.specs.Prelude.{ℕ, Bool, ◌≡◌, ◌≢◌, nat_eq, true, List, [], length, map, Some}
 use Rattle.std.specs.List.{IsDistinct}
 use Rattle.nm_types.specs.declared.id.Side.{Side}
 use Rattle.nm_types.specs.declared.fault.SyncFault.{SyncFault}
 use Rattle.nm_types.specs.declared.place.Place.{Place}
 use Rattle.nm_types.specs.Positions.{RingState, FitsRing}
-use Rattle.nm_types.specs.Slots.{Pushed}
+use Rattle.nm_types.specs.declared.id.Side.TheVariants.{Tx}
+use Rattle.nm_types.specs.Slots.{Pushed, slot_of_pushed, frame_at, pushed_frames}
+use Rattle.nm_types.specs.Sendable.{AreSent}
 use Rattle.nm_types.specs.Places.{Held, held_at, is_same_place}
 use Rattle.nm_types.specs.Exchange.{exchanged, Naming, after_push, EachBufferOnce, EachIsHeld, EachNamed}
 use Rattle.nm_types.specs.SyncFaults.{is_check_fault}
@@ -13,22 +15,22 @@ use Rattle.nm_types.specs.SyncChecks.{refusal_of, PassesChecks, EachPasses, Name
 
 -- a sync that no check refuses has positions that fit, and each of its slots passes
 abbrev pub PassedPositionsFit : Type 0
-PassedPositionsFit = (side : Side) (pool : ℕ) (named : List ℕ) (ring : RingState) (pushed : List Pushed) → PassesChecks side pool named ring pushed → FitsRing ring ring.head ring.cur
+PassedPositionsFit = (side : Side) (whole : Bool) (pool : ℕ) (named : List ℕ) (ring : RingState) (pushed : List Pushed) → PassesChecks side whole pool named ring pushed → FitsRing ring ring.head ring.cur
 
 abbrev pub PassedSlotsPass : Type 0
-PassedSlotsPass = (side : Side) (pool : ℕ) (named : List ℕ) (ring : RingState) (pushed : List Pushed) → PassesChecks side pool named ring pushed → EachPasses side pool named [] pushed
+PassedSlotsPass = (side : Side) (whole : Bool) (pool : ℕ) (named : List ℕ) (ring : RingState) (pushed : List Pushed) → PassesChecks side whole pool named ring pushed → EachPasses side whole pool named [] 0 pushed
 
 -- and where these hold no check refuses
 abbrev pub FittingPasses : Type 0
-FittingPasses = (side : Side) (pool : ℕ) (named : List ℕ) (ring : RingState) (pushed : List Pushed) → FitsRing ring ring.head ring.cur → EachPasses side pool named [] pushed → PassesChecks side pool named ring pushed
+FittingPasses = (side : Side) (whole : Bool) (pool : ℕ) (named : List ℕ) (ring : RingState) (pushed : List Pushed) → FitsRing ring ring.head ring.cur → EachPasses side whole pool named [] 0 pushed → PassesChecks side whole pool named ring pushed
 
 -- slots that pass name buffers of the session, none of them twice
 abbrev pub PassedNamesOnce : Type 0
-PassedNamesOnce = (side : Side) (pool : ℕ) (named : List ℕ) (pushed : List Pushed) → EachPasses side pool named [] pushed → NamesOnce named pushed
+PassedNamesOnce = (side : Side) (whole : Bool) (pool : ℕ) (named : List ℕ) (pushed : List Pushed) → EachPasses side whole pool named [] 0 pushed → NamesOnce named pushed
 
 -- a refusal is one of the nine after which a ring is reset
 abbrev pub RefusalsAreChecks : Type 0
-RefusalsAreChecks = (side : Side) (pool : ℕ) (named : List ℕ) (ring : RingState) (pushed : List Pushed) (fault : SyncFault) → refusal_of side pool named ring pushed ≡ Some fault → is_check_fault fault ≡ true
+RefusalsAreChecks = (side : Side) (whole : Bool) (pool : ℕ) (named : List ℕ) (ring : RingState) (pushed : List Pushed) (fault : SyncFault) → refusal_of side whole pool named ring pushed ≡ Some fault → is_check_fault fault ≡ true
 
 -- an exchange of a place that holds a buffer: the place then holds the buffer named, the place of that
 -- one holds the other, and no other place changes
@@ -51,3 +53,14 @@ abbrev pub PushedHoldNames : Type 0
 PushedHoldNames = (namings : List Naming) (held : List Held) → EachBufferOnce held → EachIsHeld held namings
     → IsDistinct is_same_place (map (λ (n : Naming). n.place) namings) → IsDistinct nat_eq (map (λ (n : Naming). n.idx) namings)
     → EachNamed (after_push held namings) namings
+
+-- the frames of an accepted push are none longer than frames are, take no more slots than are pushed, and
+-- are some where slots are pushed
+abbrev pub PushedFramesAreSent : Type 0
+PushedFramesAreSent = (bytes_of : ℕ → List ℕ) (whole : Bool) (pool : ℕ) (named : List ℕ) (pushed : List Pushed) → EachPasses Tx whole pool named [] 0 pushed
+    → AreSent (pushed_frames bytes_of pushed) (length pushed)
+
+-- where each slot is to be a frame, each is one
+abbrev pub WholeSlotsAreFrames : Type 0
+WholeSlotsAreFrames = (bytes_of : ℕ → List ℕ) (pool : ℕ) (named : List ℕ) (pushed : List Pushed) → EachPasses Tx true pool named [] 0 pushed
+    → pushed_frames bytes_of pushed ≡ map (frame_at bytes_of) (map slot_of_pushed pushed)

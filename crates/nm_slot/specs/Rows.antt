@@ -1,11 +1,13 @@
 -- Worked examples, as theorems about the definitions.
-use Rattle.std.specs.Prelude.{ℕ, ◌≡◌, ◌==◌, if◌then◌else◌, List, [], ◌∷◌, Some, None, refl, true}
+use Rattle.std.specs.Prelude.{ℕ, ◌≡◌, ◌==◌, ◌+◌, if◌then◌else◌, List, [], ◌∷◌, ◌++◌, map, Option, Some, None, refl, true, false}
+use Rattle.std.specs.List.{range_with_len}
 use Rattle.nm_types.specs.declared.id.Side.TheVariants.{Tx, Rx}
 use Rattle.nm_types.specs.declared.place.Place.TheVariants as place
-use Rattle.nm_types.specs.declared.fault.SyncFault.TheVariants.{HeadOut, CurOut, NotHeld, Doubled, Unannounced}
+use Rattle.nm_types.specs.declared.fault.SyncFault.TheVariants.{HeadOut, CurOut, NotHeld, Doubled, Unannounced, Fragment}
+use Rattle.nm_types.specs.declared.fault.SyncFault.{SyncFault}
 use Rattle.nm_types.specs.Positions.{RingState, opened_tx, opened_rx, advanced, user_slots, pushed_slots, pending_slots}
 use Rattle.nm_types.specs.Slots.{SlotState, Pushed, slot_after_push, published_slot, frame_at}
-use Rattle.nm_types.specs.SyncChecks.{refusal_of}
+use Rattle.nm_types.specs.SyncChecks.{refusal_of, slots_refusal}
 use Rattle.nm_types.specs.Reset.{reset_positions, slot_after_reset}
 use Rattle.nm_types.specs.Places.{Held}
 use Rattle.nm_types.specs.Exchange.{exchanged}
@@ -24,26 +26,26 @@ at_positions head cur ring = record ring { head = head; cur = cur }
 abbrev named : List ℕ
 named = 2 ∷ 3 ∷ 4 ∷ []
 
-bad_positions_rx : refusal_of Rx 64 named (at_positions 1 1 (opened_rx 4)) [] ≡ Some (HeadOut 1 0 0)
+bad_positions_rx : refusal_of Rx false 64 named (at_positions 1 1 (opened_rx 4)) [] ≡ Some (HeadOut 1 0 0)
 bad_positions_rx = refl
 
-bad_positions_cur : refusal_of Tx 64 named (at_positions 2 1 (opened_tx 4)) [] ≡ Some (CurOut 1 2 3)
+bad_positions_cur : refusal_of Tx false 64 named (at_positions 2 1 (opened_tx 4)) [] ≡ Some (CurOut 1 2 3)
 bad_positions_cur = refl
 
-bad_positions_head : refusal_of Tx 64 named (at_positions 4 4 (opened_tx 4)) [] ≡ Some (HeadOut 4 0 3)
+bad_positions_head : refusal_of Tx false 64 named (at_positions 4 4 (opened_tx 4)) [] ≡ Some (HeadOut 4 0 3)
 bad_positions_head = refl
 
 -- the first bad slot is told, also before a worse one
-doubled_slot : refusal_of Tx 64 named (at_positions 3 3 (opened_tx 4)) (pushed_at 0 2 2 0 ∷ pushed_at 1 3 2 1 ∷ pushed_at 2 4 66 0 ∷ []) ≡ Some (Doubled 1 2)
+doubled_slot : refusal_of Tx false 64 named (at_positions 3 3 (opened_tx 4)) (pushed_at 0 2 2 0 ∷ pushed_at 1 3 2 1 ∷ pushed_at 2 4 66 0 ∷ []) ≡ Some (Doubled 1 2)
 doubled_slot = refl
 
-foreign_slot : refusal_of Tx 64 named (at_positions 1 1 (opened_tx 4)) (pushed_at 0 2 6 0 ∷ []) ≡ Some (NotHeld 0 6)
+foreign_slot : refusal_of Tx false 64 named (at_positions 1 1 (opened_tx 4)) (pushed_at 0 2 6 0 ∷ []) ≡ Some (NotHeld 0 6)
 foreign_slot = refl
 
-quiet_swap : refusal_of Tx 64 named (at_positions 1 1 (opened_tx 4)) (pushed_at 0 2 4 0 ∷ []) ≡ Some (Unannounced 0 4 2)
+quiet_swap : refusal_of Tx false 64 named (at_positions 1 1 (opened_tx 4)) (pushed_at 0 2 4 0 ∷ []) ≡ Some (Unannounced 0 4 2)
 quiet_swap = refl
 
-announced_swap : refusal_of Tx 64 named (at_positions 1 1 (opened_tx 4)) (pushed_at 0 2 4 1 ∷ []) ≡ None
+announced_swap : refusal_of Tx false 64 named (at_positions 1 1 (opened_tx 4)) (pushed_at 0 2 4 1 ∷ []) ≡ None
 announced_swap = refl
 
 -- a pipe of 4 slots took one of three frames
@@ -65,7 +67,7 @@ slot_of_user_after_reset = refl
 kept_slot_after_reset : slot_after_reset Tx (opened_tx 4) 3 5 (named_slot 6 16) ≡ named_slot 6 16
 kept_slot_after_reset = refl
 
-received_slot_after_reset : slot_after_reset Rx (advanced (opened_rx 4) 0 0 1) 0 6 (named_slot 9 1) ≡ published_slot 6 14
+received_slot_after_reset : slot_after_reset Rx (advanced (opened_rx 4) 0 0 1) 0 6 (named_slot 9 1) ≡ published_slot 6 14 0
 received_slot_after_reset = refl
 
 changed_slot_after_push : slot_after_push (named_slot 4 9) ≡ named_slot 4 8
@@ -90,3 +92,22 @@ chain_with_loop = refl
 
 link_read_back : link_of (linked 65537 (9 ∷ 9 ∷ 9 ∷ 9 ∷ 9 ∷ [])) ≡ 65537
 link_read_back = refl
+
+-- a frame of 64 slots, and one more that goes on
+abbrev many_named : List ℕ
+many_named = range_with_len 2 66
+
+abbrev going_on : ℕ → Pushed
+going_on at = pushed_at at (at + 2) (at + 2) 32
+
+abbrev many_pushed : ℕ → List Pushed
+many_pushed count = map going_on (range_with_len 0 count) ++ pushed_at count (count + 2) (count + 2) 0 ∷ []
+
+abbrev many_refusal : ℕ → Option SyncFault
+many_refusal count = slots_refusal Tx false 128 many_named [] 0 (many_pushed count)
+
+sixty_four_slots : many_refusal 63 ≡ None
+sixty_four_slots = refl
+
+sixty_five_slots : many_refusal 64 ≡ Some (Fragment 63)
+sixty_five_slots = refl

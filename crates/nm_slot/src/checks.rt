@@ -7,7 +7,7 @@ use nm_types::{BUFFER_BYTES, Seen, Side, Slot, SlotFault, SlotFlags};
 /// Whether a sync accepts the pushed slot at the position `at`. The first of these refuses: a
 /// transmit slot that is indirect; an index of no buffer; a buffer that the session does not name;
 /// one that an earlier pushed slot names; one that is not in the slot's place and not announced; a
-/// transmit length beyond a buffer; a transmit slot whose frame goes on.
+/// transmit length beyond a buffer; a transmit slot whose frame goes on where it must end.
 #[tactic(auto, using(nm_types::proofs::SlotChecks::slot_checks))]
 pub fn judge(at: u32, slot: &Slot, seen: &Seen, side: Side) -> Result<(), SlotFault>
     ensures refusal { MatchResult result
@@ -37,7 +37,7 @@ pub fn judge(at: u32, slot: &Slot, seen: &Seen, side: Side) -> Result<(), SlotFa
             slot: at,
             len: slot.len,
         })
-    } else if is_tx && flags.contains(SlotFlags::MORE_FRAGMENTS) {
+    } else if is_tx && seen.closing && flags.contains(SlotFlags::MORE_FRAGMENTS) {
         Err(SlotFault::Fragment { slot: at })
     } else {
         Ok(())

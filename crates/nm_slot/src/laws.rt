@@ -5,7 +5,7 @@
 ghost use Rattle.nm_slot.specs.Laws.{PassedPositionsFit, PassedSlotsPass, FittingPasses};
 ghost use Rattle.nm_slot.specs.Laws.{PassedNamesOnce, RefusalsAreChecks, ExchangeBringsNamed};
 ghost use Rattle.nm_slot.specs.Laws.{ExchangeGivesBack, ExchangeLeavesOthers, ExchangeKeepsOnce};
-ghost use Rattle.nm_slot.specs.Laws.{PushedHoldNames};
+ghost use Rattle.nm_slot.specs.Laws.{PushedFramesAreSent, PushedHoldNames, WholeSlotsAreFrames};
 
 /// No check refuses a sync exactly if its positions fit and each pushed slot passes.
 pub fn checks_pass_what_fits()
@@ -22,6 +22,12 @@ pub fn names_stand_once()
 /// A refusal is one of the nine after which a ring is reset.
 pub fn refusals_are_checks()
     ensures { RefusalsAreChecks }
+{}
+
+/// The frames of an accepted push can be sent; where each slot is to be a frame, each is one.
+pub fn pushed_frames_are_sent()
+    ensures sent { PushedFramesAreSent }
+    ensures whole { WholeSlotsAreFrames }
 {}
 
 /// In an exchange two buffers change places, and nothing else moves.

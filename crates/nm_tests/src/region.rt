@@ -88,16 +88,16 @@ fn two_buffers_differ(rt: HostRuntime) -> Result<(), Fail> {
 #[test]
 #[tactic(auto, using(nm_region::proofs::Named::named))]
 fn a_write_stays_in_its_buffer(rt: HostRuntime) -> Result<(), Fail> {
-    let (region, mut all) = Region::new(rt.alloc(), 65_536)?;
-    assert_eq!(rt; all.len(), 65_536);
+    let (region, mut all) = Region::new(rt.alloc(), 262_144)?;
+    assert_eq!(rt; all.len(), 262_144);
     mark(&mut all, 0, 2047, 7);
     mark(&mut all, 2, 0, 9);
     assert_eq!(rt; all[0].bytes()[2047], 7);
     assert_eq!(rt; all[1].index(), 3);
     assert!(rt; is_zero(&all[1]));
     assert_eq!(rt; all[2].bytes()[0], 9);
-    assert_eq!(rt; all[65_535].index(), 65_537);
-    assert!(rt; is_zero(&all[65_535]));
+    assert_eq!(rt; all[262_143].index(), 262_145);
+    assert!(rt; is_zero(&all[262_143]));
     region.close(all);
     Ok(())
 }

@@ -40,7 +40,7 @@ const POSITIONS: [(u32, u32, u32, u32, &[u8]); 29] = [
 
 /// A ring of this size with this accepted head and tail.
 fn ring_at(rt: &impl Abort, size: u32, accepted: u32, tail: u32) -> Ring {
-    assert!(rt; size >= 2 && size <= 1024);
+    assert!(rt; size >= 2 && size <= 4096);
     assert!(rt; tail < size);
     let mut ring = Ring::tx(size);
     assert!(rt; ring.check(accepted, accepted).is_ok());
@@ -92,17 +92,17 @@ fn every_position_of_small_rings(rt: HostRuntime) {
     }
 }
 
-/// A transmit ring of 1024 slots that pushes 10 frames, 1023 more and none, all of them taken.
+/// A transmit ring of 4096 slots that pushes 10 frames, 4095 more and none, all of them taken.
 #[test]
 fn ring_goes_round(rt: HostRuntime) {
-    let mut ring = Ring::tx(1024);
+    let mut ring = Ring::tx(4096);
     for (head, tail) in [(10, 9), (9, 8), (9, 8)] {
         ring.put_head(head);
         ring.put_cur(head);
         assert!(rt; ring.check(ring.head(), ring.cur()).is_ok());
-        assert!(rt; ring.size() == 1024);
+        assert!(rt; ring.size() == 4096);
         ring.advance(head, head, tail);
-        assert!(rt; ring.user_range() == (head, 1023));
+        assert!(rt; ring.user_range() == (head, 4095));
     }
     assert!(rt; ring.head() == 9 && ring.cur() == 9 && ring.tail() == 8);
 }

@@ -20,6 +20,7 @@ fn seen(was: u32, held: bool, doubled: bool) -> Seen {
         top: 65,
         held,
         doubled,
+        closing: true,
     }
 }
 
@@ -123,6 +124,17 @@ fn good_slots(rt: HostRuntime) {
             "{slot:?}"
         );
     }
+}
+
+/// A frame goes on where it need not end, and nowhere else.
+#[test]
+fn frames_go_on(rt: HostRuntime) {
+    let inside = Seen {
+        closing: false,
+        ..seen(2, true, false)
+    };
+    assert!(rt; judge(0, &slot(2, 32, 2048), &inside, Side::Tx).is_ok());
+    assert!(rt; judge(0, &slot(2, 32, 2048), &seen(2, true, false), Side::Rx).is_ok());
 }
 
 /// A receive slot may have any length and flags, but names a buffer by the same rules.

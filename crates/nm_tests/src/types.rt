@@ -155,7 +155,26 @@ fn batches_hold_frames_in_order(rt: HostRuntime) -> Result<(), Fail> {
 #[test]
 fn a_batch_too_large_is_not_sendable(rt: HostRuntime) -> Result<(), Fail> {
     let mut batch = Batch::new(rt.alloc());
+    for _ in 0..2047 {
+        batch.push(&[0; 2049], false)?;
+    }
+    assert!(rt; batch.is_sendable());
     batch.push(&[0; 2049], false)?;
     assert!(rt; !batch.is_sendable());
+    Ok(())
+}
+
+#[test]
+fn a_last_frame_goes_on(rt: HostRuntime) -> Result<(), Fail> {
+    let mut batch = Batch::new(rt.alloc());
+    batch.push(&BROADCAST[..6], false)?;
+    batch.push(&BROADCAST[..6], true)?;
+    assert_eq!(rt; batch.len(), 2);
+    batch.extend_last(&BROADCAST[6..])?;
+    assert_eq!(rt; batch.len(), 2);
+    assert!(rt; batch.frame(0) == &BROADCAST[..6]);
+    assert!(rt; batch.frame(1) == BROADCAST.as_slice());
+    assert!(rt; batch.no_learn(1));
+    assert_eq!(rt; batch.size(), 20);
     Ok(())
 }

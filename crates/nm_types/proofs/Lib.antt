@@ -4,9 +4,12 @@ pub mod PipeNames
 pub mod SwitchNames
 pub mod PeerNames
 pub mod Lists
+pub mod PartLemmas
 pub mod Sizes
 pub mod RingSteps
 pub mod RingChecks
 pub mod SlotChecks
+pub mod JoinedFrames
+pub mod PutParts
 pub mod Exchanges
 pub mod NameBytes

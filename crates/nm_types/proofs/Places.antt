@@ -1,10 +1,10 @@
 -- A batch's frames lie side by side, and stay where they are while its bytes grow.
-use Rattle.std.proofs.Common.{ℕ, zero, suc, List, [], ◌∷◌, ◌++◌, ◌≡◌, ◌<◌, ◌≤◌, ◌+◌, ◌-◌, ◌∙◌, Bool, true, false, Some, length, take, drop, slice_get, refl, sym, ap, arith, slice_range}
+use Rattle.std.proofs.Common.{ℕ, zero, suc, List, [], ◌∷◌, ◌++◌, ◌≡◌, ◌<◌, ◌≤◌, ◌+◌, ◌-◌, ◌∙◌, Bool, true, false, Some, length, take, drop, slice_get, slice_set, refl, sym, ap, arith, slice_range}
 use Rattle.std.specs.Prelude.{slice_index, slice_index_or}
-use Rattle.std.proofs.lemmas.List.{length-append, length_push, take-append-le, drop-append-le, length-drop, length-take, take_all, get_or_past, get_or_push, get_or_append_left}
+use Rattle.std.proofs.lemmas.List.{length-append, length_push, take-append-le, drop-append-le, length-drop, length-take, take_all, length-set, get_or_past, get_or_push, get_or_append_left}
 use Rattle.std.proofs.Math.Seq.{drop-append_seam}
 use Rattle.std.proofs.lemmas.List.Sums.{sum_by-cons}
-use Rattle.nm_types.specs.Frames.{Frame, bytes_of_frames}
+use Rattle.nm_types.specs.Frames.{Frame, bytes_of_frames, extended}
 use Rattle.nm_types.specs.Ends.{frames_from, start_at, AreEnds, IsRun}
 
 range_grows : (b more : List ℕ) (s e : ℕ) → s ≤ e → e ≤ length b → slice_range (b ++ more) s e ≡ slice_range b s e
@@ -128,4 +128,41 @@ pushed_marked b more ends marks padded is same count = record {
       (λ i h. get_or_append_left padded (true ∷ []) false i (omega (arith, h, count)) ∙ same i)
       (get_or_push padded true false (length ends) count);
   is = record { cut = ends_run b more ends is.cut; few = omega (arith, count, length_push ends (length b + length more), length_push padded true) };
+}
+
+-- the last frame, once bytes stand behind its own
+range_extended : (b more : List ℕ) (s : ℕ) → s ≤ length b → slice_range (b ++ more) s (length b + length more) ≡ slice_range b s (length b) ++ more
+range_extended b more s h =
+    let behind : drop s (b ++ more) ≡ drop s b ++ more = drop-append-le s b more h in
+    let size : length (drop s b) ≡ length b - s = length-drop s b in
+    let all : take (length b + length more - s) (drop s b ++ more) ≡ drop s b ++ more = take_all (length b + length more - s) (drop s b ++ more) (omega (arith, size, length-append (drop s b) more, h)) in
+    let own : take (length b - s) (drop s b) ≡ drop s b = take_all (length b - s) (drop s b) (omega (arith, size)) in
+    rw (behind, all, own) refl
+
+pub frames_extended : (b more ends : List ℕ) (marks : List Bool) (s i : ℕ) → AreEnds s (length b) ends → i + 1 ≡ length ends
+    → frames_from (b ++ more) (slice_set ends i (length b + length more)) marks s ≡ extended more (frames_from b ends marks s)
+frames_extended b more [] marks s i a h = absurd (omega (arith, h))
+frames_extended b more (e ∷ []) marks s zero a h =
+    let end : e ≡ length b = a.1 in
+    let start : s ≤ length b = omega (arith, a.0, end) in
+    rw (end, range_extended b more s start) refl
+frames_extended b more (e ∷ []) marks s (suc i) a h = absurd (omega (arith, h))
+frames_extended b more (e ∷ next ∷ ends) marks s zero a h = absurd (omega (arith, h))
+frames_extended b more (e ∷ next ∷ ends) marks s (suc i) a h =
+    let within = start_within e (length b) (next ∷ ends) zero a.1 in
+    let first : framed (slice_range (b ++ more) s e) (slice_index_or marks 0 false) ≡ framed (slice_range b s e) (slice_index_or marks 0 false) =
+    ap (λ (x : List ℕ). framed x (slice_index_or marks 0 false)) (range_grows b more s e a.0 within) in
+    both_same first (frames_extended b more (next ∷ ends) (drop 1 marks) e i a.1 (omega (arith, h)))
+
+ends_extended : (s size now : ℕ) (ends : List ℕ) (i : ℕ) → size ≤ now → AreEnds s size ends → i + 1 ≡ length ends → AreEnds s now (slice_set ends i now)
+ends_extended s size now [] i more a h = absurd (omega (arith, h))
+ends_extended s size now (e ∷ []) zero more a h = let end : e ≡ size = a.1 in (omega (arith, a.0, end, more), refl)
+ends_extended s size now (e ∷ []) (suc i) more a h = absurd (omega (arith, h))
+ends_extended s size now (e ∷ next ∷ ends) zero more a h = absurd (omega (arith, h))
+ends_extended s size now (e ∷ next ∷ ends) (suc i) more a h = (a.0, ends_extended e size now (next ∷ ends) i more a.1 (omega (arith, h)))
+
+pub run_extended : (b more ends : List ℕ) (marks : List Bool) (i : ℕ) → IsRun b ends marks → i + 1 ≡ length ends → IsRun (b ++ more) (slice_set ends i (length b + length more)) marks
+run_extended b more ends marks i is h = record {
+  cut = rw (length-append b more) (ends_extended 0 (length b) (length b + length more) ends i (omega arith) is.cut h);
+  few = omega (arith, is.few, length-set ends i (length b + length more));
 }

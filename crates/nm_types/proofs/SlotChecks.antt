@@ -8,9 +8,9 @@ use Rattle.nm_types.specs.declared.id.Side.{Side}
 use Rattle.nm_types.specs.declared.slot.Seen.{Seen}
 use Rattle.nm_types.specs.declared.refusal.SlotFault.{SlotFault}
 use Rattle.nm_types.specs.declared.fault.SyncFault.{SyncFault}
-use Rattle.nm_types.specs.Slots.{SlotState, Pushed, pushed_names, has_flag, buf_changed, indirect, more_fragments}
+use Rattle.nm_types.specs.Slots.{SlotState, Pushed, pushed_names, has_flag, goes_on, buf_changed, indirect}
 use Rattle.nm_types.specs.SyncFaults.{slot_sync_fault}
-use Rattle.nm_types.specs.SyncChecks.{is_tx, is_index_out, slot_refusal, slots_refusal, first_refusal, seen_of, contains_index, PassesSlot, EachPasses, NamesOnce}
+use Rattle.nm_types.specs.SyncChecks.{is_tx, is_index_out, slot_refusal, slots_refusal, first_refusal, seen_of, begun_after, contains_index, PassesSlot, EachPasses, NamesOnce}
 
 -- the first of seven answers, where none comes
 none_of_seven : {A : Type 0} → (a b c d e f g : Bool) (t u v w x y z : A)
@@ -70,7 +70,7 @@ PassesSlot-from_none side seen at slot e =
       once = none.3;
       announced = announced_where_other slot.buf_idx seen.was (has_flag buf_changed slot) none.4;
       fits_buffer = (λ (tx : is_tx side ≡ true). not_longer 2048 slot.len (both_false (is_tx side) (nat_lt 2048 slot.len) none.5 tx));
-      whole = both_false (is_tx side) (has_flag more_fragments slot) none.6;
+      whole = (λ (tx : is_tx side ≡ true) (closing : seen.closing ≡ true). both_false seen.closing (goes_on slot) (both_false (is_tx side) (seen.closing && goes_on slot) none.6 tx) closing);
     }
 
 pub slot_refusal-passes : (side : Side) (seen : Seen) (at : ℕ) (slot : SlotState) → PassesSlot side seen slot → slot_refusal side seen at slot ≡ None
@@ -80,7 +80,7 @@ slot_refusal-passes side seen at slot p =
     let held : not seen.held ≡ false = ap not p.held in
     let announced = other_announced slot.buf_idx seen.was (has_flag buf_changed slot) p.announced in
     let short = false_both (is_tx side) (nat_lt 2048 slot.len) (λ (tx : is_tx side ≡ true). not_below 2048 slot.len (p.fits_buffer tx)) in
-    let whole = false_both (is_tx side) (has_flag more_fragments slot) p.whole in
+    let whole = false_both (is_tx side) (seen.closing && goes_on slot) (λ (tx : is_tx side ≡ true). false_both seen.closing (goes_on slot) (p.whole tx)) in
     rw (direct, index, held, p.once, announced, short, whole) refl
 
 -- a pushed range without a refusal, slot by slot
@@ -96,21 +96,21 @@ pub later_none : (first later : Option SyncFault) → first_refusal first later 
 later_none None later e = e
 later_none (Some fault) later e = cc
 
-pub EachPasses-from_none : (side : Side) (pool : ℕ) (named earlier : List ℕ) (pushed : List Pushed) → slots_refusal side pool named earlier pushed ≡ None → EachPasses side pool named earlier pushed
-EachPasses-from_none side pool named earlier [] e = tt
-EachPasses-from_none side pool named earlier (p ∷ ps) e =
-    let refusal = slot_refusal side (seen_of pool named earlier p) p.at p.slot in
-    let others = slots_refusal side pool named (earlier ++ p.slot.buf_idx ∷ []) ps in
+pub EachPasses-from_none : (side : Side) (whole : Bool) (pool : ℕ) (named earlier : List ℕ) (begun : ℕ) (pushed : List Pushed) → slots_refusal side whole pool named earlier begun pushed ≡ None → EachPasses side whole pool named earlier begun pushed
+EachPasses-from_none side whole pool named earlier begun [] e = tt
+EachPasses-from_none side whole pool named earlier begun (p ∷ ps) e =
+    let refusal = slot_refusal side (seen_of whole pool named earlier begun ps p) p.at p.slot in
+    let others = slots_refusal side whole pool named (earlier ++ p.slot.buf_idx ∷ []) (begun_after begun p.slot) ps in
     let none = refused_none slot_sync_fault refusal (first_none (option_map slot_sync_fault refusal) others e) in (
-      PassesSlot-from_none side (seen_of pool named earlier p) p.at p.slot none,
-      EachPasses-from_none side pool named (earlier ++ p.slot.buf_idx ∷ []) ps (later_none (option_map slot_sync_fault refusal) others e),
+      PassesSlot-from_none side (seen_of whole pool named earlier begun ps p) p.at p.slot none,
+      EachPasses-from_none side whole pool named (earlier ++ p.slot.buf_idx ∷ []) (begun_after begun p.slot) ps (later_none (option_map slot_sync_fault refusal) others e),
     )
 
-pub slots_refusal-passes : (side : Side) (pool : ℕ) (named earlier : List ℕ) (pushed : List Pushed) → EachPasses side pool named earlier pushed → slots_refusal side pool named earlier pushed ≡ None
-slots_refusal-passes side pool named earlier [] passes = refl
-slots_refusal-passes side pool named earlier (p ∷ ps) passes =
-    let first = slot_refusal-passes side (seen_of pool named earlier p) p.at p.slot passes.0 in
-    let rest = slots_refusal-passes side pool named (earlier ++ p.slot.buf_idx ∷ []) ps passes.1 in
+pub slots_refusal-passes : (side : Side) (whole : Bool) (pool : ℕ) (named earlier : List ℕ) (begun : ℕ) (pushed : List Pushed) → EachPasses side whole pool named earlier begun pushed → slots_refusal side whole pool named earlier begun pushed ≡ None
+slots_refusal-passes side whole pool named earlier begun [] passes = refl
+slots_refusal-passes side whole pool named earlier begun (p ∷ ps) passes =
+    let first = slot_refusal-passes side (seen_of whole pool named earlier begun ps p) p.at p.slot passes.0 in
+    let rest = slots_refusal-passes side whole pool named (earlier ++ p.slot.buf_idx ∷ []) (begun_after begun p.slot) ps passes.1 in
     rw (first, rest) refl
 
 -- a slot behind one that names a buffer names another
@@ -134,31 +134,31 @@ now_in b earlier =
     or_true true = refl
     or_true false = refl
 
-names_apart : (side : Side) (pool : ℕ) (named earlier : List ℕ) (b : ℕ) (pushed : List Pushed) → contains_index earlier b ≡ true
-    → EachPasses side pool named earlier pushed → AllByRecursion (λ y. nat_eq b y ≡ false) (pushed_names pushed)
-names_apart side pool named earlier b [] has passes = tt
-names_apart side pool named earlier b (p ∷ ps) has passes = (
+names_apart : (side : Side) (whole : Bool) (pool : ℕ) (named earlier : List ℕ) (begun : ℕ) (b : ℕ) (pushed : List Pushed) → contains_index earlier b ≡ true
+    → EachPasses side whole pool named earlier begun pushed → AllByRecursion (λ y. nat_eq b y ≡ false) (pushed_names pushed)
+names_apart side whole pool named earlier begun b [] has passes = tt
+names_apart side whole pool named earlier begun b (p ∷ ps) has passes = (
   apart b p.slot.buf_idx earlier has passes.0.once,
-  names_apart side pool named (earlier ++ p.slot.buf_idx ∷ []) b ps (still_in b earlier (p.slot.buf_idx ∷ []) has) passes.1,
+  names_apart side whole pool named (earlier ++ p.slot.buf_idx ∷ []) (begun_after begun p.slot) b ps (still_in b earlier (p.slot.buf_idx ∷ []) has) passes.1,
 )
 
-names_distinct : (side : Side) (pool : ℕ) (named earlier : List ℕ) (pushed : List Pushed) → EachPasses side pool named earlier pushed → IsDistinct nat_eq (pushed_names pushed)
+names_distinct : (side : Side) (whole : Bool) (pool : ℕ) (named earlier : List ℕ) (begun : ℕ) (pushed : List Pushed) → EachPasses side whole pool named earlier begun pushed → IsDistinct nat_eq (pushed_names pushed)
 unfolding IsDistinct
-names_distinct side pool named earlier [] passes = tt
-names_distinct side pool named earlier (p ∷ ps) passes = (
-  names_apart side pool named (earlier ++ p.slot.buf_idx ∷ []) p.slot.buf_idx ps (now_in p.slot.buf_idx earlier) passes.1,
-  names_distinct side pool named (earlier ++ p.slot.buf_idx ∷ []) ps passes.1,
+names_distinct side whole pool named earlier begun [] passes = tt
+names_distinct side whole pool named earlier begun (p ∷ ps) passes = (
+  names_apart side whole pool named (earlier ++ p.slot.buf_idx ∷ []) (begun_after begun p.slot) p.slot.buf_idx ps (now_in p.slot.buf_idx earlier) passes.1,
+  names_distinct side whole pool named (earlier ++ p.slot.buf_idx ∷ []) (begun_after begun p.slot) ps passes.1,
 )
 
-names_held : (side : Side) (pool : ℕ) (named earlier : List ℕ) (pushed : List Pushed) → EachPasses side pool named earlier pushed → list_all (contains_index named) (pushed_names pushed) ≡ true
-names_held side pool named earlier [] passes = refl
-names_held side pool named earlier (p ∷ ps) passes =
+names_held : (side : Side) (whole : Bool) (pool : ℕ) (named earlier : List ℕ) (begun : ℕ) (pushed : List Pushed) → EachPasses side whole pool named earlier begun pushed → list_all (contains_index named) (pushed_names pushed) ≡ true
+names_held side whole pool named earlier begun [] passes = refl
+names_held side whole pool named earlier begun (p ∷ ps) passes =
     let first : contains_index named p.slot.buf_idx ≡ true = passes.0.held in
-    let rest = names_held side pool named (earlier ++ p.slot.buf_idx ∷ []) ps passes.1 in
+    let rest = names_held side whole pool named (earlier ++ p.slot.buf_idx ∷ []) (begun_after begun p.slot) ps passes.1 in
     rw (first, rest) refl
 
-pub NamesOnce-from_passes : (side : Side) (pool : ℕ) (named earlier : List ℕ) (pushed : List Pushed) → EachPasses side pool named earlier pushed → NamesOnce named pushed
-NamesOnce-from_passes side pool named earlier pushed passes = record { distinct = names_distinct side pool named earlier pushed passes; held = names_held side pool named earlier pushed passes }
+pub NamesOnce-from_passes : (side : Side) (whole : Bool) (pool : ℕ) (named earlier : List ℕ) (begun : ℕ) (pushed : List Pushed) → EachPasses side whole pool named earlier begun pushed → NamesOnce named pushed
+NamesOnce-from_passes side whole pool named earlier begun pushed passes = record { distinct = names_distinct side whole pool named earlier begun pushed passes; held = names_held side whole pool named earlier begun pushed passes }
 
 -- a slot that one check refuses does not pass
 pub refused-PassesSlot : (side : Side) (seen : Seen) (at : ℕ) (slot : SlotState) (fault : SlotFault) → slot_refusal side seen at slot ≡ Some fault → PassesSlot side seen slot → ⊥

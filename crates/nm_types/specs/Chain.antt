@@ -1,19 +1,19 @@
 -- The chain of a port's extra buffers: the first four bytes of each hold the index of the next as a
 -- little-endian number, and 0 ends it.
-use Rattle.std.specs.Prelude.{ℕ, zero, suc, not, ◌||◌, ◌==◌, ◌+◌, ◌-◌, ◌*◌, ◌/◌, ◌%◌, if◌then◌else◌, List, [], ◌∷◌, ◌++◌, drop, get_or, length}
+use Rattle.std.specs.Prelude.{ℕ, zero, suc, not, ◌||◌, ◌==◌, ◌+◌, ◌-◌, ◌*◌, ◌/◌, ◌%◌, ◌^◌, if◌then◌else◌, List, [], ◌∷◌, ◌++◌, drop, get_or, length}
 use Rattle.nm_types.specs.declared.id.Chain.{Chain}
 use Rattle.nm_types.specs.SyncChecks.{contains_index}
 
 -- a number of 32 bits as its four bytes, lowest first
 abbrev pub link_bytes : ℕ → List ℕ
-link_bytes next = (next % 256) ∷ (next / 256 % 256) ∷ (next / 65536 % 256) ∷ (next / 16777216) ∷ []
+link_bytes next = (next % 256) ∷ (next / 256 % 256) ∷ (next / 256 ^ 2 % 256) ∷ (next / 256 ^ 3) ∷ []
 
 -- a buffer's bytes once they link to the next buffer
 abbrev pub linked : ℕ → List ℕ → List ℕ
 linked next bytes = link_bytes next ++ drop 4 bytes
 
 abbrev pub link_of : List ℕ → ℕ
-link_of bytes = get_or bytes 0 0 + 256 * get_or bytes 1 0 + 65536 * get_or bytes 2 0 + 16777216 * get_or bytes 3 0
+link_of bytes = get_or bytes 0 0 + 256 * get_or bytes 1 0 + 256 ^ 2 * get_or bytes 2 0 + 256 ^ 3 * get_or bytes 3 0
 
 -- at opening each extra links to the one after it, and the first is the chain's head
 abbrev pub chain_head : List ℕ → ℕ

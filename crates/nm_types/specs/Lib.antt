@@ -14,6 +14,7 @@ pub mod OwnEdits
 pub mod OwnPorts
 pub mod OwnRows
 pub mod OwnSyncs
+pub mod Parts
 pub mod Places
 pub mod Positions
 pub mod Reset

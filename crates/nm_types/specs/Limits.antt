@@ -1,12 +1,12 @@
--- The limits of version 1. The code's constants are tied to these numbers by `laws::limits`.
+-- The limits. The code's constants are tied to these numbers by `laws::limits_are_defined`.
 use Rattle.std.specs.Prelude.{ℕ}
 
--- a ring has 2 to 1024 slots
+-- the slots of a ring
 abbrev pub least_ring : ℕ
 least_ring = 2
 
 abbrev pub most_ring : ℕ
-most_ring = 1024
+most_ring = 4096
 
 -- the extra buffers of a port
 abbrev pub most_extra : ℕ
@@ -14,7 +14,7 @@ most_extra = 1024
 
 -- the buffers of a pool, and those of a pool whose script names no number
 abbrev pub most_pool : ℕ
-most_pool = 65536
+most_pool = 262144
 
 abbrev pub default_pool : ℕ
 default_pool = 8192
@@ -24,13 +24,20 @@ buffer_bytes = 2048
 
 -- the frames of one send: one slot of the largest ring always stays with the kernel side
 abbrev pub most_batch : ℕ
-most_batch = 1023
+most_batch = 4095
+
+-- the bytes of one frame, and the slots that it takes at most
+abbrev pub most_frame_bytes : ℕ
+most_frame_bytes = 131072
+
+abbrev pub most_frame_slots : ℕ
+most_frame_slots = 64
 
 abbrev pub most_switches : ℕ
 most_switches = 4
 
 abbrev pub most_switch_ports : ℕ
-most_switch_ports = 16
+most_switch_ports = 254
 
 abbrev pub most_pipe_ends : ℕ
 most_pipe_ends = 32
@@ -40,7 +47,7 @@ most_monitors = 32
 
 -- all ports that can be there at once
 abbrev pub most_ports : ℕ
-most_ports = 128
+most_ports = 1080
 
 abbrev pub name_bytes : ℕ
 name_bytes = 16
@@ -51,10 +58,21 @@ buckets = 1024
 
 -- a record's entries, stored and promised, and its bytes of frames
 abbrev pub most_entries : ℕ
-most_entries = 8388608
+most_entries = 16777216
 
 abbrev pub most_bytes : ℕ
-most_bytes = 536870912
+most_bytes = 1073741824
+
+-- those of a record with a transcript of the first version
+abbrev pub first_most_entries : ℕ
+first_most_entries = 8388608
+
+abbrev pub first_most_bytes : ℕ
+first_most_bytes = 536870912
+
+-- the bytes of a transcript's text that is read
+abbrev pub most_text : ℕ
+most_text = 268435456
 
 -- a script: its users, bytes and lines, the sum of its counts, and the bytes and frames that it plays
 abbrev pub most_users : ℕ

@@ -1,6 +1,6 @@
 -- What a session has of its own, as the user of netmap(4) sees it: ports with their rings and slots,
 -- the buffers in their places, and the bytes of these buffers.
-use Rattle.std.specs.Prelude.{ℕ, ◌==◌, ◌+◌, if◌then◌else◌, List, [], ◌++◌, length, map, find, flat_map, slice_index, slice_index_or, slice_set, replicate, Option, Some, None, option_map, option_and_then}
+use Rattle.std.specs.Prelude.{ℕ, Bool, ◌==◌, ◌+◌, if◌then◌else◌, List, [], ◌++◌, length, map, find, flat_map, slice_index, slice_index_or, slice_set, replicate, Option, Some, None, option_map, option_and_then}
 use Rattle.std.specs.Option.{option_map_or}
 use Rattle.std.specs.Str.{bytes_eq}
 use Rattle.nm_types.specs.declared.id.PortId.{PortId}
@@ -10,6 +10,7 @@ use Rattle.nm_types.specs.declared.fault.SyncFault.{SyncFault}
 use Rattle.nm_types.specs.Positions.{RingState, dist, user_slots, pushed_slots}
 use Rattle.nm_types.specs.Slots.{SlotState, Pushed}
 use Rattle.nm_types.specs.SyncChecks.{refusal_of}
+use Rattle.nm_types.specs.Names.{is_pipe_name}
 
 -- A ring of a session. Of a transmit ring the slots and the buffers held stand by position. Of a receive
 -- ring they are those of the user's slots alone, from the accepted head on; the others are the kernel
@@ -35,10 +36,12 @@ pub record OwnState : Type 0 where
   pub ports : List OwnPort
   pub bytes : List (List ℕ)
 
--- a buffer that comes to a session, with the bytes of the frame in it; all its other bytes are zero
+-- a buffer that comes to a session, with the bytes of a part of a frame in it, behind which so many
+-- parts follow; all its other bytes are zero
 pub record Arrival : Type 0 where
   pub buffer : ℕ
   pub bytes : List ℕ
+  pub rest : ℕ
 
 -- a session of a pool of so many buffers that has none
 abbrev pub empty_own : ℕ → OwnState
@@ -127,8 +130,16 @@ pushed_in side r = map (pushed_at side r) (pushed_slots r.ring r.ring.head)
 abbrev pub pushed_count : OwnRing → ℕ
 pushed_count r = length (pushed_slots r.ring r.ring.head)
 
-abbrev pub refusal_in : Side → OwnState → OwnRing → Option SyncFault
-refusal_in side s r = refusal_of side s.pool (named_of s) r.ring (pushed_in side r)
+-- a port each of whose slots is a frame: an end of a pipe
+abbrev pub is_whole : OwnPort → Bool
+is_whole p = is_pipe_name p.name
+
+abbrev pub refusal_in : Side → OwnState → OwnPort → OwnRing → Option SyncFault
+refusal_in side s p r = refusal_of side (is_whole p) s.pool (named_of s) r.ring (pushed_in side r)
+
+-- the first refusal of a sync of the ring on a side of the port of an id; none where there is no such ring
+abbrev pub refusal_at : Side → ℕ → OwnState → Option SyncFault
+refusal_at side id s = option_and_then (λ (p : OwnPort). option_and_then (refusal_in side s p) (ring_on side p)) (port_with_id s id)
 
 -- what a sync of a port's ring finds pushed; nothing where there is no such ring
 abbrev pub pushed_on : Side → ℕ → OwnState → List Pushed

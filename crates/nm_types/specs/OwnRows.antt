@@ -1,6 +1,6 @@
 -- Worked examples of what a session has of its own, as theorems about the definitions. The pool has 64
 -- buffers; ports and buffers are numbered as a script that opens them would number them.
-use Rattle.std.specs.Prelude.{ℕ, Bool, ◌≡◌, true, false, List, [], ◌∷◌, map, codes, Option, Some, None, option_map, refl}
+use Rattle.std.specs.Prelude.{ℕ, Bool, ◌≡◌, true, false, List, [], ◌∷◌, ◌++◌, map, replicate, codes, Option, Some, None, option_map, refl}
 use Rattle.nm_types.specs.declared.id.Side.{Side}
 use Rattle.nm_types.specs.declared.id.Side.TheVariants.{Tx, Rx}
 use Rattle.nm_types.specs.declared.id.Chain.{Chain}
@@ -9,14 +9,15 @@ use Rattle.nm_types.specs.declared.fault.SyncFault.{SyncFault}
 use Rattle.nm_types.specs.declared.fault.SyncFault.TheVariants.{HeadOut, CurOut, Indirect, IndexOut, NotHeld, Doubled, Unannounced, LongLen, Fragment}
 use Rattle.nm_types.specs.Positions.{RingState}
 use Rattle.nm_types.specs.Frames.{Frame}
+use Rattle.nm_types.specs.Names.{is_pipe_name}
 use Rattle.nm_types.specs.Slots.{SlotState, pushed_frames}
 use Rattle.nm_types.specs.Chain.{linked}
-use Rattle.nm_types.specs.OwnPorts.{OwnRing, OwnPort, OwnState, Arrival, empty_own, bytes_at, with_bytes, port_with_id, ring_at, buffers_in, named_of, refusal_in, pushed_on}
+use Rattle.nm_types.specs.OwnPorts.{OwnRing, OwnPort, OwnState, Arrival, empty_own, bytes_at, with_bytes, port_with_id, ring_at, buffers_in, named_of, refusal_at, pushed_on}
 use Rattle.nm_types.specs.OwnSyncs.{own_after_open, own_after_send, own_after_put, own_after_receive, own_after_reset, own_after_finish, offered_slots, back_on, chain_in}
 use Rattle.nm_types.specs.OwnEdits.{SlotPlace, with_positions, with_all_back, user_slot_at, with_user_slot, with_slot_field, with_slots_swapped, has_room, with_frame, with_forwarded, with_extra_link, with_head_of_chain}
 
 abbrev arrival : ℕ → Arrival
-arrival buffer = record { buffer = buffer; bytes = [] }
+arrival buffer = record { buffer = buffer; bytes = []; rest = 0 }
 
 -- a broadcast from 02:00:00:00:00:0a
 abbrev broadcast : List ℕ
@@ -24,11 +25,7 @@ broadcast = 255 ∷ 255 ∷ 255 ∷ 255 ∷ 255 ∷ 255 ∷ 2 ∷ 0 ∷ 0 ∷ 0 
 
 -- the first refusal of a sync of a port's ring; none where there is no such ring
 abbrev refusal_on : Side → ℕ → OwnState → Option SyncFault
-refusal_on side id s = refusal_by (ring_at side s id)
-  where
-    refusal_by : Option OwnRing → Option SyncFault
-    refusal_by None = None
-    refusal_by (Some r) = refusal_in side s r
+refusal_on side id s = refusal_at side id s
 
 abbrev frames_on : ℕ → OwnState → List Frame
 frames_on id s = pushed_frames (bytes_at s) (pushed_on Tx id s)
@@ -116,6 +113,7 @@ indirect_slot : refusal_on Tx 2 (first_slot 2 14 16) ≡ Some (Indirect 0)
 indirect_slot = refl
 
 frame_goes_on : refusal_on Tx 2 (first_slot 2 14 32) ≡ Some (Fragment 0)
+unfolding is_pipe_name
 frame_goes_on = refl
 
 -- within a slot the checks have an order, and the first slot refused is told
@@ -126,12 +124,14 @@ abbrev twice_named : OwnState
 twice_named = with_user_slot Tx 2 1 (record { buf_idx = 2; len = 14; flags = 1; ptr = 0 }) (with_frame 2 broadcast one_put)
 
 doubled_slot : refusal_on Tx 2 twice_named ≡ Some (Doubled 1 2)
+unfolding is_pipe_name
 doubled_slot = refl
 
 abbrev put_again : OwnState
 put_again = with_frame 2 broadcast (own_after_reset 2 Tx twice_named)
 
 put_after_reset : refusal_on Tx 2 put_again ≡ None
+unfolding is_pipe_name
 put_after_reset = refl
 
 sent_after_reset : frames_on 2 put_again ≡ frame_of broadcast ∷ []
@@ -148,7 +148,7 @@ reset_names_place : user_slot_at Tx (own_after_reset 2 Tx twice_named) 2 1 ≡ S
 reset_names_place = refl
 
 -- a full ring has no room, and a shorter frame leaves the old bytes behind it
-three_put : has_room (with_frame 2 broadcast (with_frame 2 broadcast one_put)) 2 ≡ false
+three_put : has_room (with_frame 2 broadcast (with_frame 2 broadcast one_put)) 2 broadcast ≡ false
 three_put = refl
 
 old_bytes_stay : frames_on 2 (with_user_slot Tx 2 0 (record { buf_idx = 2; len = 3; flags = 0; ptr = 0 }) (with_frame 2 (1 ∷ []) (with_positions Tx 2 0 0 one_put)))
@@ -163,9 +163,11 @@ two_crossed flags =
     (with_user_slot Tx 2 0 (record { buf_idx = 3; len = 2; flags = 1; ptr = 0 }) (with_positions Tx 2 2 2 four_slots))
 
 crossed_announced_once : refusal_on Tx 2 (two_crossed 0) ≡ Some (Unannounced 1 2 3)
+unfolding is_pipe_name
 crossed_announced_once = refl
 
 crossed_announced_twice : refusal_on Tx 2 (two_crossed 1) ≡ None
+unfolding is_pipe_name
 crossed_announced_twice = refl
 
 -- each pushed place holds the buffer that its slot names, once, and is announced no longer
@@ -184,12 +186,13 @@ third_place = refl
 
 -- where the buffer stands in the slot that the kernel side keeps, it is no named one
 third_refusals : push_refusals 2 3 (third_taken 2 ∷ third_taken 1 ∷ []) ≡ Some (Unannounced 2 4 2) ∷ Some (NotHeld 2 4) ∷ []
+unfolding is_pipe_name
 third_refusals = refl
 
 -- A port that got a frame swaps the buffer into its transmit ring and sends it without copying it.
 
 abbrev second_user : OwnState
-second_user = own_after_receive 4 (record { buffer = 14; bytes = broadcast } ∷ []) (own_after_open 4 (codes "vale0:b") 4 4 (map arrival (10 ∷ 11 ∷ 12 ∷ 13 ∷ [])) (empty_own 64))
+second_user = own_after_receive 4 (record { buffer = 14; bytes = broadcast; rest = 0 } ∷ []) (own_after_open 4 (codes "vale0:b") 4 4 (map arrival (10 ∷ 11 ∷ 12 ∷ 13 ∷ [])) (empty_own 64))
 
 got_frame : user_slot_at Rx second_user 4 0 ≡ Some (record { buf_idx = 14; len = 14; flags = 0; ptr = 0 })
 got_frame = refl
@@ -208,6 +211,7 @@ swap_pushed announce = pushed_after (with_slots_swapped announce (slot_place Rx)
     pushed_after s = with_positions Tx 4 1 1 (with_len 14 (user_slot_at Tx s 4 0) s)
 
 swap_accepted : refusal_on Tx 4 (swap_pushed true) ≡ None
+unfolding is_pipe_name
 swap_accepted = refl
 
 swap_frames : frames_on 4 (swap_pushed true) ≡ frame_of broadcast ∷ []
@@ -237,9 +241,10 @@ quiet_swap_refused_there = refl
 
 -- forwarding does the same, with the length, and moves all four positions
 abbrev forwarded : OwnState
-forwarded = with_forwarded 9 4 4 second_user
+forwarded = with_forwarded false 9 4 4 second_user
 
 forward_accepted : refusal_on Tx 4 forwarded ≡ None
+unfolding is_pipe_name
 forward_accepted = refl
 
 forward_frames : frames_on 4 forwarded ≡ frame_of broadcast ∷ []
@@ -351,6 +356,7 @@ across_places_there = refl
 
 -- the slot there keeps naming the buffer that left
 across_refusals : push_refusals 3 2 (across 2 ∷ across 1 ∷ []) ≡ Some (Unannounced 1 11 2) ∷ Some (NotHeld 1 11) ∷ []
+unfolding is_pipe_name
 across_refusals = refl
 
 -- a detach names what stands in the port's places, wherever it came from
@@ -385,3 +391,83 @@ round_positions = refl
 -- a link may be any number of 32 bits
 greatest_link : detached (with_bytes 6 (linked 4294967295 (bytes_at with_extras 6)) with_extras) 2 ≡ Some (2 ∷ 3 ∷ 6 ∷ 7 ∷ 8 ∷ [], chain 1 2)
 greatest_link = refl
+
+-- A frame of several slots: each but the last one says that it goes on, and the mark of the first one is
+-- the frame's.
+
+abbrev two_put : OwnState
+two_put = with_frame 2 broadcast one_put
+
+-- two slots of 14 bytes each, with these flags
+abbrev two_flagged : ℕ → ℕ → OwnState
+two_flagged first second = with_slot_field Tx 2 1 (Flags second) (with_slot_field Tx 2 0 (Flags first) two_put)
+
+two_frames : frames_on 2 (two_flagged 8 0) ≡ record { bytes = broadcast; no_learn = true } ∷ frame_of broadcast ∷ []
+two_frames = refl
+
+one_of_two : frames_on 2 (two_flagged 32 0) ≡ frame_of (broadcast ++ broadcast) ∷ []
+one_of_two = refl
+
+first_mark_counts : frames_on 2 (two_flagged 40 0) ≡ record { bytes = broadcast ++ broadcast; no_learn = true } ∷ []
+first_mark_counts = refl
+
+second_mark_does_not : frames_on 2 (two_flagged 32 8) ≡ frame_of (broadcast ++ broadcast) ∷ []
+second_mark_does_not = refl
+
+two_accepted : refusal_on Tx 2 (two_flagged 32 0) ≡ None
+unfolding is_pipe_name
+two_accepted = refl
+
+-- the last slot pushed may not go on
+last_goes_on : refusal_on Tx 2 (two_flagged 0 32) ≡ Some (Fragment 1)
+unfolding is_pipe_name
+last_goes_on = refl
+
+-- nor any slot at a pipe's end
+pipe_goes_on : refusal_on Tx 3 (with_slot_field Tx 3 0 (Flags 32) pipe_pushed) ≡ Some (Fragment 0)
+unfolding is_pipe_name
+pipe_goes_on = refl
+
+-- received parts: the slot of each tells whether its frame goes on, and how many follow
+abbrev two_received : OwnState
+two_received = own_after_receive 4 (record { buffer = 14; bytes = broadcast; rest = 1 } ∷ record { buffer = 15; bytes = 1 ∷ 2 ∷ 3 ∷ []; rest = 0 } ∷ []) (own_after_open 4 (codes "vale0:b") 4 4 (map arrival (10 ∷ 11 ∷ 12 ∷ 13 ∷ [])) (empty_own 64))
+
+first_part : user_slot_at Rx two_received 4 0 ≡ Some (record { buf_idx = 14; len = 14; flags = 288; ptr = 0 })
+first_part = refl
+
+last_part : user_slot_at Rx two_received 4 1 ≡ Some (record { buf_idx = 15; len = 3; flags = 0; ptr = 0 })
+last_part = refl
+
+-- forwarded as one frame
+abbrev two_forwarded : OwnState
+two_forwarded = with_forwarded false 9 4 4 two_received
+
+two_forwarded_frames : frames_on 4 two_forwarded ≡ frame_of (broadcast ++ 1 ∷ 2 ∷ 3 ∷ []) ∷ []
+two_forwarded_frames = refl
+
+two_forwarded_accepted : refusal_on Tx 4 two_forwarded ≡ None
+unfolding is_pipe_name
+two_forwarded_accepted = refl
+
+two_forwarded_back : back_on 4 (own_after_send 4 two_forwarded) ≡ 10 ∷ 11 ∷ []
+two_forwarded_back = refl
+
+-- not to a port each of whose slots is a frame, nor where the other ring has too few slots
+not_forwarded_whole : with_forwarded true 9 4 4 two_received ≡ two_received
+not_forwarded_whole = refl
+
+not_forwarded_full : with_forwarded false 9 4 4 (with_positions Tx 4 2 2 two_received) ≡ with_positions Tx 4 2 2 two_received
+not_forwarded_full = refl
+
+-- a frame of one byte more than a buffer: two slots
+abbrev long_put : OwnState
+long_put = with_frame 2 (replicate 2049 7) four_slots
+
+long_put_first : user_slot_at Tx long_put 2 0 ≡ Some (record { buf_idx = 2; len = 2048; flags = 32; ptr = 0 })
+long_put_first = refl
+
+long_put_second : user_slot_at Tx long_put 2 1 ≡ Some (record { buf_idx = 3; len = 1; flags = 0; ptr = 0 })
+long_put_second = refl
+
+long_put_positions : positions_on Tx 2 long_put ≡ Some (record { size = 4; head = 2; cur = 2; tail = 3; accepted_head = 0; last_tail = 3 })
+long_put_positions = refl

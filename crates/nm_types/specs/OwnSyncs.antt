@@ -105,9 +105,9 @@ after_taking id came s = record (with_ring Tx id (ring_after_put (buffers_of_arr
 abbrev pub own_after_put : ℕ → List Arrival → OwnState → OwnState
 own_after_put id came s = after_taking id came (after_exchange Tx id s)
 
--- a receive ring whose pushed slots' buffers went back, and behind whose other slots these frames stand
+-- a receive ring whose pushed slots' buffers went back, and behind whose other slots these parts stand
 abbrev pub published : Arrival → SlotState
-published came = published_slot came.buffer (length came.bytes)
+published came = published_slot came.buffer (length came.bytes) came.rest
 
 abbrev pub ring_after_receive : List Arrival → OwnRing → OwnRing
 ring_after_receive came r = record {
@@ -137,7 +137,7 @@ own_after_reset id side s = with_ring side id (ring_after_reset side) s
 -- an opened port: each transmit slot names the buffer in its place, and each extra buffer links to the
 -- next; a monitor has no transmit ring
 abbrev pub opened_slot : ℕ → SlotState
-opened_slot buffer = published_slot buffer 0
+opened_slot buffer = published_slot buffer 0 0
 
 abbrev pub opened_tx_ring : ℕ → List ℕ → Option OwnRing
 opened_tx_ring size buffers = if size == 0 then None else Some (record { ring = opened_tx size; slots = map opened_slot buffers; held = buffers })

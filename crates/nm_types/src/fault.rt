@@ -144,7 +144,7 @@ pub enum SyncFault {
     /// A transmit slot has more bytes than a buffer.
     #[error("slot {slot} has {len} bytes, more than a buffer")]
     LongLen { slot: u32, len: u16 },
-    /// A transmit slot's frame goes on in the next slot.
+    /// A transmit slot's frame goes on where it must end.
     #[error("slot {slot} is marked NS_MOREFRAG")]
     Fragment { slot: u32 },
     /// The other end of the pipe is not open.
@@ -189,7 +189,7 @@ impl From<NoMemory> for SyncFault {
 #[derive(Clone, Copy, Debug, PartialEq, Eq, Error)]
 pub enum OpenFault {
     /// A ring's size or the number of extra buffers is out of range for a port of this kind.
-    #[error("a ring has 2 to 1024 slots (a monitor no transmit ring), a port up to 1024 extra buffers")]
+    #[error("a ring has 2 to 4096 slots (a monitor no transmit ring), a port up to 1024 extra buffers")]
     BadSize,
     /// The name's switch has no port, and the most switches are there.
     #[error("there are as many switches as there may be")]

@@ -1,14 +1,14 @@
 ghost use Rattle.std.specs.Prelude.{ℕ, ◌≡◌, ◌<◌, ◌≤◌, ◌+◌, ◌^◌, [], ◌∷◌, ◌++◌, length, take, IfOk, OnOk, OnErr};
 ghost use Rattle.std.specs.Prelude.{slice_get, slice_index, slice_index_or, slice_range, option_map, Some, true, false, IsTrue, ◌↔◌};
-ghost use Rattle.std.specs.List.{list_all};
 ghost use Rattle.std.specs.Vec.{vec_capacity};
 ghost use Rattle.std.specs.Arc.{arc_value};
 ghost use Rattle.nm_types.specs.Ends.{start_at};
-ghost use Rattle.nm_types.specs.Frames.{bytes_of_frames};
-ghost use Rattle.nm_types.specs.Sendable.{fits_buffer, is_sendable};
+ghost use Rattle.nm_types.specs.Frames.{bytes_of_frames, extended};
+ghost use Rattle.nm_types.specs.Sendable.{fit_slots, is_sendable};
 
+use crate::cuts::slots;
 use crate::fault::NoMemory;
-use crate::limits::{BUFFER_BYTES, MAX_BATCH};
+use crate::limits::{MAX_BATCH, MAX_FRAME_BYTES};
 use std::alloc::{AllocError, Global};
 use std::marker::Model;
 use std::sync::Arc;
@@ -215,6 +215,19 @@ impl Run {
         Ok(())
     }
 
+    /// Adds bytes to the last frame.
+    fn extend_last(&mut self, bytes: &[u8]) -> Result<(), AllocError>
+        requires { 0 < length self.old }
+        ensures ok { OnOk result (self.new ≡ extended bytes.now self.old) }
+        ensures err { OnErr result (self.new ≡ self.old) }
+    {
+        let end = end_behind(self.bytes.len(), bytes.len())?;
+        self.bytes.extend_from_slice(bytes)?;
+        let last = self.ends.len() - 1;
+        self.ends[last] = end;
+        Ok(())
+    }
+
     fn get(&self, i: usize) -> (&[u8], bool)
         requires { i < length self.now }
         ensures { slice_get self.now i ≡ Some (record { bytes = result.0.now; no_learn = result.1 }) }
@@ -304,6 +317,19 @@ impl Batch {
         Ok(())
     }
 
+    /// Adds bytes to the last frame, behind its own.
+    pub fn extend_last(&mut self, bytes: &[u8]) -> Result<(), NoMemory>
+        requires { 0 < length self.old }
+        ensures ok { OnOk result (self.new ≡ extended bytes.now self.old) }
+        ensures err { OnErr result (self.new ≡ self.old) }
+    {
+        match &mut self.run {
+            Some(run) => Arc::make_mut(run)?.extend_last(bytes)?,
+            None => unreachable!(),
+        }
+        Ok(())
+    }
+
     /// The number of frames.
     pub fn len(&self) -> usize
         ensures { result ≡ length self.now }
@@ -359,23 +385,30 @@ impl Batch {
         }
     }
 
+    /// Whether no frame is longer than frames are, and all of them take no more slots than these.
     #[tactic(auto, using(crate::proofs::Sizes::sizes))]
-    fn fit_buffers(&self) -> bool
-        ensures { result ≡ list_all fits_buffer self.now }
+    fn fit_slots(&self, room: u32) -> bool
+        ensures { result ≡ fit_slots room self.now }
     {
+        let mut left = room;
         for i in 0..self.len() {
-            if self.get(i).0.len() > BUFFER_BYTES {
+            let len = self.get(i).0.len();
+            if len > MAX_FRAME_BYTES {
                 return false;
             }
+            let size = slots(len);
+            if size > left {
+                return false;
+            }
+            left -= size;
         }
         true
     }
 
     /// Tells whether one send may carry the frames.
-    #[tactic(auto, using(crate::proofs::Sizes::sizes))]
     pub fn is_sendable(&self) -> bool
         ensures { result ≡ is_sendable self.now }
     {
-        self.len() <= MAX_BATCH && self.fit_buffers()
+        self.len() <= MAX_BATCH && self.fit_slots(MAX_BATCH as u32)
     }
 }

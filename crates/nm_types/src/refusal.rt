@@ -37,7 +37,7 @@ pub enum SlotFault {
     Unannounced { slot: u32, idx: u32, was: u32 },
     /// A transmit slot has more bytes than a buffer.
     LongLen { slot: u32, len: u16 },
-    /// A transmit slot's frame goes on in the next slot.
+    /// A transmit slot's frame goes on where it must end.
     Fragment { slot: u32 },
 }
 

@@ -37,12 +37,13 @@ impl Slot {
 
 /// What a sync knows of a pushed slot before it judges it: the buffer in the slot's place, the
 /// pool's greatest index, whether the buffer that the slot names is one of the session's named
-/// ones, and whether an earlier slot of the pushed range names it too. `top` is the number of the
-/// pool's buffers plus 1.
+/// ones, whether an earlier slot of the pushed range names it too, and whether a frame must end in
+/// it. `top` is the number of the pool's buffers plus 1.
 #[derive(Clone, Copy, Debug, PartialEq, Eq)]
 pub struct Seen {
     pub was: u32,
     pub top: u32,
     pub held: bool,
     pub doubled: bool,
+    pub closing: bool,
 }

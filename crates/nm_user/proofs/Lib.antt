@@ -18,9 +18,11 @@ pub mod TransmitsPut
 pub mod TransmitsTold
 pub mod TransmitsLent
 pub mod TransmitsCome
+pub mod JoinedParts
+pub mod SlotsJoined
 pub mod SavingRing
 pub mod SavingRead
-pub mod SavingCopies
+pub mod FramesCounted
 pub mod SavingHistory
 pub mod SavingSights
 pub mod SavingReads

@@ -7,17 +7,19 @@ use Rattle.std.proofs.lemmas.List.{length-map}
 use Rattle.std.proofs.lemmas.List.Elements.{recursion_from_All}
 use Rattle.nm_types.specs.Names.{is_pipe_name}
 use Rattle.nm_types.specs.Positions.{RingState, dist, pushed_slots}
+use Rattle.nm_types.specs.Parts.{HeldPart}
 use Rattle.nm_types.specs.Slots.{Pushed, pushed_names}
+use Rattle.nm_region.specs.Buffers.{indices_of}
 use Rattle.nm_types.specs.declared.fault.SyncFault.{SyncFault}
 use Rattle.nm_types.specs.declared.id.PortId.{PortId}
 use Rattle.nm_types.specs.declared.id.Side.TheVariants.{Rx}
-use Rattle.nm_types.specs.OwnPorts.{OwnPort, OwnRing, OwnState, Arrival, port_with_id, ring_at, ring_on, refusal_in, pushed_at, pushed_in}
+use Rattle.nm_types.specs.OwnPorts.{OwnPort, OwnRing, OwnState, Arrival, port_with_id, ring_at, ring_on, refusal_in, refusal_at, pushed_at, pushed_in}
 use Rattle.nm_types.specs.OwnSyncs.{back_on, buffers_of_arrivals, own_after_receive}
 use Rattle.nm_types.proofs.RingSteps.{dist-below, length-slots_from}
-use Rattle.nm_port.specs.Own.{refusal_at, ring_of}
+use Rattle.nm_port.specs.Own.{ring_of}
 use Rattle.nm_turn.specs.Shares.{IsWhole}
 use Rattle.vale_line.specs.declared.got.Got.{Got}
-use Rattle.vale_line.specs.Gots.{IsSingle}
+use Rattle.vale_line.specs.Gots.{buffers_of}
 use Rattle.vale_entry.specs.declared.entry.Ask.{Ask}
 use Rattle.vale_entry.specs.declared.entry.Ask.TheVariants.{Sync, Get}
 use Rattle.vale_entry.specs.declared.entry.Dest.{Dest}
@@ -25,8 +27,7 @@ use Rattle.vale_entry.specs.declared.entry.Reply.{Reply}
 use Rattle.vale_entry.specs.declared.entry.Reply.TheVariants.{Gave}
 use Rattle.vale_entry.specs.World.{Port, open_port}
 use Rattle.vale_entry.specs.Holdings.{is_buffer_index}
-use Rattle.vale_entry.specs.Arrivals.{arrivals_of, frame_arrival, given_at, given_arrivals}
-use Rattle.vale_entry.specs.Delivery.{delivered_frames}
+use Rattle.vale_entry.specs.Arrivals.{arrivals_of, part_arrival, delivered_parts, given_at, given_arrivals}
 use Rattle.vale_entry.specs.OwnCalls.{own_by, or_reset, back_in, rx_call}
 use Rattle.vale_entry.specs.Legal.{Standing, standing_of, kept_ask, step, session_and_reply, made_at, can_sync, can_get, sync_step, offers_of_sync}
 use Rattle.vale_entry.proofs.Counting.{count_of}
@@ -79,7 +80,7 @@ pub record Reads (own : OwnState) (port : PortId) (pipe : Bool) : Type 0 where
   pub found : port_with_id own port.0 ≡ Some rx
   pub id_is : rx.id ≡ port
   pub ring_is : ring_at Rx own port.0 ≡ Some rx.rx
-  pub passes : refusal_in Rx own rx.rx ≡ None
+  pub passes : refusal_in Rx own rx rx.rx ≡ None
   pub is : rx_call own rx ≡ read_ask pipe port (back_on port.0 own)
 
 pub reads : (own : OwnState) (port : PortId) (pipe : Bool) → IsSome (port_with_id own port.0) → IfSome (port_with_id own port.0) (λ (p : OwnPort). is_pipe_name p.name ≡ pipe)
@@ -87,7 +88,7 @@ pub reads : (own : OwnState) (port : PortId) (pipe : Bool) → IsSome (port_with
 reads own port pipe some named refused =
     let h : HasOpen own port = has-open own port some in
     let at : ring_at Rx own port.0 ≡ Some h.port.rx = ap (option_and_then (ring_on Rx)) h.found in
-    let passes : refusal_in Rx own h.port.rx ≡ None = sym (ap (option_and_then (refusal_in Rx own)) at) ∙ refused in
+    let passes : refusal_in Rx own h.port h.port.rx ≡ None = sym (ap (option_and_then (λ (p : OwnPort). option_and_then (refusal_in Rx own p) (ring_on Rx p))) h.found) ∙ refused in
     let name : is_pipe_name h.port.name ≡ pipe = subst (λ (o : Option OwnPort). IfSome o (λ (p : OwnPort). is_pipe_name p.name ≡ pipe)) h.found named in
     let back : back_on port.0 own ≡ back_in h.port = ap (λ (o : Option OwnRing). pushed_names (option_map_or (pushed_in Rx) o [])) at in
     let get : Ask = Get h.port.id (back_in h.port) in
@@ -108,7 +109,7 @@ abbrev pub reading : OwnState → PortId → Bool → Ask
 reading own port pipe = read_ask pipe port (back_on port.0 own)
 
 -- the call of a receive sync, whose refusal has numbers that fit, is the session's to ask
-pub rx-asks : {s : SessionState} {port : PortId} (ask : Ask) → IsThere None s → (at : OwnPort) → port_with_id s.own port.0 ≡ Some at → at.id ≡ port → RefusalFits (refusal_in Rx s.own at.rx) → rx_call s.own at ≡ ask
+pub rx-asks : {s : SessionState} {port : PortId} (ask : Ask) → IsThere None s → (at : OwnPort) → port_with_id s.own port.0 ≡ Some at → at.id ≡ port → RefusalFits (refusal_in Rx s.own at at.rx) → rx_call s.own at ≡ ask
     → asks (standing_seen s.fixed s.knows) s.id ask ≡ true
 rx-asks {s} {port} ask t at found id_is fits is =
     let pool = s.fixed.pool in
@@ -292,13 +293,13 @@ module _ (s : SessionState) (w : Knowing) (port : PortId) (pipe : Bool) (count :
       once-by (count_of b (own_of m.session now).buffers) (count_of b (buffers_of_arrivals came)) (is_buffer_index pool b)
       (subst (λ (cs : List Arrival). count_of b (own_of m.session now).buffers + count_of b (buffers_of_arrivals cs) ≤ cond (is_buffer_index pool b) 1 0) arrivals-then (arrivals-apart pool h e b l.legal l.follows)))
 
-  pub came-are : (gots : List Got) → All IsSingle gots → IsGiven (before_in s.fixed w) port gots → came ≡ arrivals_in gots
-  came-are gots single given =
+  pub came-are : (gots : List Got) → IsGiven (before_in s.fixed w) port gots → came ≡ arrivals_in gots
+  came-are gots given =
       let st = found-step in
       let of = given st.at st.found in
       ap (λ (o : Option Port). option_map_or (given_arrivals now) o []) st.found
-      ∙ (ap (λ (bs : List ℕ). map frame_arrival (zip bs (delivered_frames st.at))) (sym of.buffers)
-      ∙ arrivals-are gots (delivered_frames st.at) (recursion_from_All IsSingle gots single) of.frames)
+      ∙ (ap (λ (bs : List ℕ). map part_arrival (zip bs (delivered_parts st.at))) (sym of.buffers)
+      ∙ (ap (λ (parts : List HeldPart). map part_arrival (zip (indices_of (buffers_of gots)) parts)) (sym of.parts) ∙ arrivals-are gots))
 
 -- ---- before the call
 
@@ -321,6 +322,14 @@ reads-here {seen} {now} {own} port pipe e f there some named refused =
 pub may-read : {s : SessionState} {port : PortId} {pipe : Bool} → ReadsHere s port pipe → MayAsk s.fixed s.knows (reading s.own port pipe)
 may-read k = may k.there (read-asks k.there k.reads)
 
+-- the port whose ring passes
+passes-in : (own : OwnState) (id : ℕ) (r : OwnRing) → ring_at Rx own id ≡ Some r → refusal_at Rx id own ≡ None → (p : OwnPort) × (refusal_in Rx own p r ≡ None)
+passes-in own id r at refused = by (port_with_id own id) at refused
+  where
+    by : (o : Option OwnPort) → option_and_then (ring_on Rx) o ≡ Some r → option_and_then (λ (p : OwnPort). option_and_then (refusal_in Rx own p) (ring_on Rx p)) o ≡ None → (p : OwnPort) × (refusal_in Rx own p r ≡ None)
+    by None at refused = absurd cc
+    by (Some p) at refused = (let same : p.rx ≡ r = cc in (p, subst (λ (x : OwnRing). refusal_in Rx own p x ≡ None) same refused))
+
 -- the buffers that go back are no more than the user has slots
 pub few-back : (own : OwnState) (id : ℕ) (ring : RingState) → Some ring ≡ option_map ring_of (ring_at Rx own id) → refusal_at Rx id own ≡ None → length (back_on id own) ≤ dist ring.size ring.accepted_head ring.last_tail
 few-back own id ring e refused = by (ring_at Rx own id) refl e
@@ -329,8 +338,8 @@ few-back own id ring e refused = by (ring_at Rx own id) refl e
     by None at is = absurd cc
     by (Some r) at is =
         let same : ring ≡ r.ring = cc is in
-        let passes : refusal_in Rx own r ≡ None = sym (ap (option_and_then (refusal_in Rx own)) at) ∙ refused in
-        let reach = (sync-fits Rx own r passes).head_reach in
+        let of = passes-in own id r at refused in
+        let reach = (sync-fits Rx own of.0 r of.1).head_reach in
         let pushed : length (back_on id own) ≡ length (pushed_names (pushed_in Rx r)) = ap (λ (o : Option OwnRing). length (pushed_names (option_map_or (pushed_in Rx) o []))) at in
         let names = length-map (pushed_in Rx r) (λ (x : Pushed). x.slot.buf_idx) in
         let slots = length-map (pushed_slots r.ring r.ring.head) (pushed_at Rx r) in
@@ -341,7 +350,7 @@ pub few-gone : {s : SessionState} {port : PortId} {pipe : Bool} → ReadsHere s 
 few-gone {s} {port} {pipe} k =
     let c = k.reads in
     let ring = c.rx.rx.ring in
-    let refused : refusal_at Rx port.0 s.own ≡ None = ap (option_and_then (refusal_in Rx s.own)) c.ring_is ∙ c.passes in
+    let refused : refusal_at Rx port.0 s.own ≡ None = ap (option_and_then (λ (p : OwnPort). option_and_then (refusal_in Rx s.own p) (ring_on Rx p))) c.found ∙ c.passes in
     let back = few-back s.own port.0 ring (sym (ap (option_map ring_of) c.ring_is)) refused in
     let sound = each-find IsSoundPort (λ (p : OwnPort). p.id.0 == port.0) s.own.ports c.rx k.there.side.sound.each c.found in
     let below = dist-below ring.size ring.accepted_head ring.last_tail sound.rx.positions.accepted in

@@ -5,20 +5,18 @@ use Rattle.std.specs.List.{AllByRecursion as Each, zip}
 use Rattle.std.proofs.lemmas.Bool.{eq-eqb}
 use Rattle.std.proofs.lemmas.List.{map-append, reverse-append}
 use Rattle.std.proofs.lemmas.List.Sums.{fold-append}
-use Rattle.nm_types.specs.Frames.{Frame}
 use Rattle.nm_types.specs.Positions.{kernel_count}
 use Rattle.nm_types.specs.declared.id.Side.TheVariants.{Rx}
-use Rattle.nm_types.specs.OwnPorts.{OwnPort, OwnState, Arrival, port_with_id, ring_at, ring_on, refusal_in}
+use Rattle.nm_types.specs.OwnPorts.{OwnPort, OwnState, Arrival, port_with_id, ring_at, ring_on, refusal_in, refusal_at}
 use Rattle.nm_types.specs.OwnSyncs.{back_on, buffers_of_arrivals, own_after_receive, without_bytes_of}
 use Rattle.nm_types.proofs.RingSteps.{dist_split}
 use Rattle.nm_region.specs.Buffers.{Buffer, indices_of}
-use Rattle.nm_port.specs.Own.{refusal_at}
 use Rattle.nm_own.specs.Opening.{IsNew}
 use Rattle.nm_port.specs.Receives.{own_with_arrival}
 use Rattle.nm_own.proofs.OwnLaws.{frames_come, room_for_frames}
 use Rattle.vale_line.specs.declared.got.Got.{Got}
-use Rattle.vale_line.specs.Gots.{buffers_of, frames_in, part_in, IsSingle}
-use Rattle.vale_entry.specs.Arrivals.{frame_arrival}
+use Rattle.vale_line.specs.Gots.{buffers_of, held_parts}
+use Rattle.vale_entry.specs.Arrivals.{part_arrival}
 use Rattle.vale_entry.proofs.Counting.{count_of, count_of-cons, count_of-append}
 use Rattle.vale_own.specs.Side.{IsRxRing}
 use Rattle.vale_own.specs.SideLaws.{IsNewTo}
@@ -43,14 +41,14 @@ come-next id s done a =
     ap (λ (x : OwnState). own_with_arrival id x a) (sym (frames_come id done s))
     ∙ (sym (fold-append (own_with_arrival id) (own_after_receive id [] s) done (a ∷ [])) ∙ frames_come id (done ++ a ∷ []) s)
 
-module _ (id : ℕ) (s : OwnState) (p : OwnPort) (found : port_with_id s id ≡ Some p) (passes : refusal_in Rx s p.rx ≡ None) (is : IsRxRing p.rx) where
+module _ (id : ℕ) (s : OwnState) (p : OwnPort) (found : port_with_id s id ≡ Some p) (passes : refusal_in Rx s p p.rx ≡ None) (is : IsRxRing p.rx) where
   ring-is : ring_at Rx s id ≡ Some p.rx
   ring-is = ap (option_and_then (ring_on Rx)) found
 
   kernel-room : (n : ℕ) → length p.rx.held + n < p.rx.ring.size → 1 ≤ n → n - 1 < kernel_count p.rx.ring.size p.rx.ring.head p.rx.ring.last_tail
   kernel-room n few some =
       let ring = p.rx.ring in
-      let fits = sync-fits Rx s p.rx passes in
+      let fits = sync-fits Rx s p p.rx passes in
       let tail : ring.last_tail < ring.size = (let w = is.positions.within in let o = is.positions.one_tail in omega (arith, w, o)) in
       let split = dist_split ring.size ring.accepted_head ring.head ring.last_tail is.positions.accepted fits.head_within tail fits.head_reach in
       let held = is.held in
@@ -66,7 +64,7 @@ module _ (id : ℕ) (s : OwnState) (p : OwnPort) (found : port_with_id s id ≡ 
       let none : count_of a.buffer (buffers_of_arrivals done) ≡ 0 = omega (arith, one, here, first) in
       let left = kernel-room (length done + 1) (omega (arith, few)) (omega arith) in
       let room : length done < kernel_count p.rx.ring.size p.rx.ring.head p.rx.ring.last_tail = omega (arith, left) in
-      let refused : refusal_at Rx id s ≡ None = ap (option_and_then (refusal_in Rx s)) ring-is ∙ passes in
+      let refused : refusal_at Rx id s ≡ None = ap (option_and_then (λ (q : OwnPort). option_and_then (refusal_in Rx s q) (ring_on Rx q))) found ∙ passes in
       let long = length-append done (a ∷ []) in
       let rest = can-come (done ++ a ∷ []) came (omega (arith, few, long)) new.1 (λ b.
       let both = once b in
@@ -78,20 +76,11 @@ module _ (id : ℕ) (s : OwnState) (p : OwnPort) (found : port_with_id s id ≡ 
         subst (λ (x : OwnState). CanCome id x came) (sym (come-next id s done a)) rest,
       )
 
--- ---- the frames in buffers
+-- ---- the parts in buffers
 
-pub arrivals-are : (gots : List Got) (frames : List Frame) → Each IsSingle gots → frames_in gots ≡ map (λ (x : Frame). x.bytes) frames → map frame_arrival (zip (indices_of (buffers_of gots)) frames) ≡ arrivals_in gots
-arrivals-are [] frames all e = refl
-arrivals-are (g ∷ gs) [] all e =
-    let last : (g.rest == 0) ≡ true = eq-eqb g.rest 0 all.0 in
-    absurd (let bad : part_in g ∷ frames_in gs ≡ [] = rw last at e in cc)
-arrivals-are (g ∷ gs) (f ∷ fs) all e =
-    let last : (g.rest == 0) ≡ true = eq-eqb g.rest 0 all.0 in
-    let both : part_in g ∷ frames_in gs ≡ f.bytes ∷ map (λ (x : Frame). x.bytes) fs = rw last at e in
-    let here : part_in g ≡ f.bytes = cc in
-    let behind : frames_in gs ≡ map (λ (x : Frame). x.bytes) fs = cc in
-    let one : frame_arrival (g.buf.index, f) ≡ arrival_in g = ap (λ (bytes : List ℕ). let made : Arrival = record { buffer = g.buf.index; bytes = bytes } in made) (sym here) in
-    ap (λ (a : Arrival). a ∷ map frame_arrival (zip (indices_of (buffers_of gs)) fs)) one ∙ ap (λ (rest : List Arrival). arrival_in g ∷ rest) (arrivals-are gs fs all.1 behind)
+pub arrivals-are : (gots : List Got) → map part_arrival (zip (indices_of (buffers_of gots)) (held_parts gots)) ≡ arrivals_in gots
+arrivals-are [] = refl
+arrivals-are (g ∷ gs) = ap (λ (rest : List Arrival). arrival_in g ∷ rest) (arrivals-are gs)
 
 -- ---- vectors
 

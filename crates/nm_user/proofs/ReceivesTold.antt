@@ -15,7 +15,7 @@ use Rattle.nm_types.specs.OwnSyncs.{back_on, own_after_receive}
 use Rattle.nm_port.specs.Receives.{own_with_arrival}
 use Rattle.nm_own.proofs.OwnLaws.{frames_come}
 use Rattle.vale_line.specs.declared.got.Got.{Got}
-use Rattle.vale_line.specs.Gots.{buffers_of}
+use Rattle.vale_line.specs.Gots.{buffers_of, frames_in}
 use Rattle.vale_entry.specs.declared.entry.Ask.{Ask}
 use Rattle.vale_entry.specs.declared.entry.Dest.{Dest}
 use Rattle.vale_entry.specs.declared.entry.Reply.TheVariants.{Gave}
@@ -76,7 +76,7 @@ pub unreceived : {s : SessionState} {w : Knowing} {port : PortId} {pipe : Bool} 
     → ReceivesNot s (record s { knows = w }) port.0 (sync_fault_of fault)
 unreceived {s} {w} {port} {pipe} {fault} c full = record {
   at = record { port = c.rx; found = c.found };
-  not = says-full s (record s { knows = w }) (rx_call s.own c.rx) (refusal_in Rx s.own c.rx.rx) fault (subst (λ (ask : Ask). MadeNone s (record s { knows = w }) ask fault) (sym c.is) (record { refused = inr full; same = refl }));
+  not = says-full s (record s { knows = w }) (rx_call s.own c.rx) (refusal_in Rx s.own c.rx c.rx.rx) fault (subst (λ (ask : Ask). MadeNone s (record s { knows = w }) ask fault) (sym c.is) (record { refused = inr full; same = refl }));
 }
 
 -- ---- as the session has it, frame by frame
@@ -86,7 +86,7 @@ module _ (s : SessionState) (w : Knowing) (port : PortId) (pipe : Bool) (synced 
   gots = synced.got.items
 
   abbrev count : ℕ
-  count = length synced.got.items
+  count = length (frames_in synced.got.items)
 
   abbrev to : List Dest
   to = dests_wanted synced.offers.wants
@@ -95,7 +95,7 @@ module _ (s : SessionState) (w : Knowing) (port : PortId) (pipe : Bool) (synced 
   came = given_at (standing_of s.fixed.pool (earlier w.seen)) port.0
 
   came-is : came ≡ arrivals_in gots
-  came-is = came-are s w port pipe count to k.there k.reads read.made gots read.single read.got
+  came-is = came-are s w port pipe count to k.there k.reads read.made gots read.got
 
   pub gots-region : AreOf s.fixed.region (buffers_of gots)
   gots-region = let st = found-step s w port pipe count to k.there k.reads read.made in (read.got st.at st.found).region_is

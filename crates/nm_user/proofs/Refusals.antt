@@ -11,8 +11,7 @@ use Rattle.nm_types.specs.declared.fault.SyncFault.TheVariants.{HeadOut, CurOut,
 use Rattle.nm_types.specs.declared.id.PortId.{PortId}
 use Rattle.nm_types.specs.declared.id.Side.{Side}
 use Rattle.nm_types.specs.declared.id.Side.TheVariants.{Tx, Rx}
-use Rattle.nm_types.specs.OwnPorts.{refusal_in}
-use Rattle.nm_port.specs.Own.{refusal_at}
+use Rattle.nm_types.specs.OwnPorts.{refusal_in, refusal_at}
 use Rattle.vale_entry.specs.declared.entry.Ask.{Ask}
 use Rattle.vale_entry.specs.declared.entry.Ask.TheVariants.{Reset}
 use Rattle.vale_entry.specs.declared.entry.Reply.{Reply}
@@ -62,13 +61,13 @@ ring-not s t Tx port fault said is not =
     let k = refused-at s.own Tx port fault is in
     record {
       tx = record { port = k.at; ring = k.ring; found = k.found; has = k.has };
-      not = subst (λ (ask : Ask). SyncsNot s t ask (refusal_in Tx s.own k.ring) said) (sym (tx-resets k)) (subst (λ (o : Option SyncFault). SyncsNot s t (Reset port Tx fault) o said) (sym k.is) not);
+      not = subst (λ (ask : Ask). SyncsNot s t ask (refusal_in Tx s.own k.at k.ring) said) (sym (tx-resets k)) (subst (λ (o : Option SyncFault). SyncsNot s t (Reset port Tx fault) o said) (sym k.is) not);
     }
 ring-not s t Rx port fault said is not =
     let k = refused-at s.own Rx port fault is in
     record {
       at = record { port = k.at; found = k.found };
-      not = subst (λ (ask : Ask). SyncsNot s t ask (refusal_in Rx s.own k.at.rx) said) (sym (rx-resets k)) (subst (λ (o : Option SyncFault). SyncsNot s t (Reset port Rx fault) o said) (sym (rx-refused k)) not);
+      not = subst (λ (ask : Ask). SyncsNot s t ask (refusal_in Rx s.own k.at k.at.rx) said) (sym (rx-resets k)) (subst (λ (o : Option SyncFault). SyncsNot s t (Reset port Rx fault) o said) (sym (rx-refused k)) not);
     }
 
 pub refused-not : (s t : SessionState) (side : Side) (port : PortId) (fault : SyncFault) → refusal_at side port.0 s.own ≡ Some fault → Made s t (Reset port side fault) replies.Made → RingNot side s t port.0 fault
@@ -85,5 +84,5 @@ reset-not s t side port fault full is none = ring-not s t side port fault (sync_
 pub unsent-not : (s t : SessionState) (id : ℕ) (fault : StepFault) → IsUnsent s t id fault → TransmitsNot s t id (sync_fault_of fault)
 unsent-not s t id fault u = record {
   tx = u.tx;
-  not = says-full s t (tx_call s.own u.tx.port u.tx.ring) (refusal_in Tx s.own u.tx.ring) fault u.none;
+  not = says-full s t (tx_call s.own u.tx.port u.tx.ring) (refusal_in Tx s.own u.tx.port u.tx.ring) fault u.none;
 }

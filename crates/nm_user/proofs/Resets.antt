@@ -8,9 +8,8 @@ use Rattle.nm_types.specs.declared.fault.SyncFault.{SyncFault}
 use Rattle.nm_types.specs.declared.id.PortId.{PortId}
 use Rattle.nm_types.specs.declared.id.Side.{Side}
 use Rattle.nm_types.specs.declared.id.Side.TheVariants.{Tx, Rx}
-use Rattle.nm_types.specs.OwnPorts.{OwnPort, OwnRing, OwnState, bytes_at, port_with_id, ring_on, refusal_in, pushed_in}
+use Rattle.nm_types.specs.OwnPorts.{OwnPort, OwnRing, OwnState, bytes_at, port_with_id, ring_on, refusal_in, refusal_at, pushed_in}
 use Rattle.nm_types.specs.OwnSyncs.{own_after_reset}
-use Rattle.nm_port.specs.Own.{refusal_at}
 use Rattle.vale_entry.specs.declared.entry.Ask.{Ask}
 use Rattle.vale_entry.specs.declared.entry.Ask.TheVariants.{Reset, Send, Sync, Put, Get}
 use Rattle.vale_entry.specs.declared.entry.Reply.TheVariants as replies
@@ -32,12 +31,12 @@ pub record IsRefusedAt (own : OwnState) (side : Side) (port : PortId) (fault : S
   pub found : port_with_id own port.0 ≡ Some at
   pub id_is : at.id ≡ port
   pub has : ring_on side at ≡ Some ring
-  pub is : refusal_in side own ring ≡ Some fault
+  pub is : refusal_in side own at ring ≡ Some fault
 
 pub refused-at : (own : OwnState) (side : Side) (port : PortId) (fault : SyncFault) → refusal_at side port.0 own ≡ Some fault → IsRefusedAt own side port fault
 refused-at own side port fault is = by (port_with_id own port.0) refl is
   where
-    on : (p : OwnPort) (r : Option OwnRing) → port_with_id own port.0 ≡ Some p → ring_on side p ≡ r → option_and_then (refusal_in side own) r ≡ Some fault → IsRefusedAt own side port fault
+    on : (p : OwnPort) (r : Option OwnRing) → port_with_id own port.0 ≡ Some p → ring_on side p ≡ r → option_and_then (refusal_in side own p) r ≡ Some fault → IsRefusedAt own side port fault
     on p None found has e = absurd cc
     on p (Some r) found has e =
         let place = place-of (λ (q : OwnPort). q.id.0 == port.0) own.ports p found in
@@ -50,7 +49,7 @@ refused-at own side port fault is = by (port_with_id own port.0) refl is
           is = e;
         }
 
-    by : (found : Option OwnPort) → port_with_id own port.0 ≡ found → option_and_then (refusal_in side own) (option_and_then (ring_on side) found) ≡ Some fault → IsRefusedAt own side port fault
+    by : (found : Option OwnPort) → port_with_id own port.0 ≡ found → option_and_then (λ (p : OwnPort). option_and_then (refusal_in side own p) (ring_on side p)) found ≡ Some fault → IsRefusedAt own side port fault
     by None found e = absurd cc
     by (Some p) found e = on p (ring_on side p) found refl e
 
@@ -64,8 +63,8 @@ tx-resets {own} {port} {fault} k =
     let as-send : Ask = Send k.at.id (pushed_frames (bytes_at own) (pushed_in Tx k.ring)) in
     ap (λ (o : Option SyncFault). or_reset o k.at.id Tx (if is_pipe_name k.at.name then as-pipe else as-send)) k.is ∙ ap (λ (id : PortId). Reset id Tx fault) k.id_is
 
-pub rx-refused : {own : OwnState} {port : PortId} {fault : SyncFault} (k : IsRefusedAt own Rx port fault) → refusal_in Rx own k.at.rx ≡ Some fault
-rx-refused {own} k = ap (refusal_in Rx own) (same-ring k.at.rx k.ring k.has) ∙ k.is
+pub rx-refused : {own : OwnState} {port : PortId} {fault : SyncFault} (k : IsRefusedAt own Rx port fault) → refusal_in Rx own k.at k.at.rx ≡ Some fault
+rx-refused {own} k = ap (refusal_in Rx own k.at) (same-ring k.at.rx k.ring k.has) ∙ k.is
 
 pub rx-resets : {own : OwnState} {port : PortId} {fault : SyncFault} (k : IsRefusedAt own Rx port fault) → rx_call own k.at ≡ Reset port Rx fault
 rx-resets {own} {port} {fault} k =

@@ -6,6 +6,8 @@ use Rattle.std.specs.List.{zip}
 use Rattle.std.proofs.lemmas.Bool.{eqb-true, eq-eqb, and_parts, leb-true}
 use Rattle.std.proofs.lemmas.List.{take-append-drop}
 use Rattle.nm_types.specs.Frames.{Frame}
+use Rattle.nm_types.specs.Parts.{HeldPart, cut_frames}
+use Rattle.nm_types.specs.Positions.{RingState, step_on}
 use Rattle.nm_types.specs.Slots.{Pushed}
 use Rattle.nm_types.specs.declared.fault.SyncFault.{SyncFault}
 use Rattle.nm_types.specs.declared.id.PortId.{PortId}
@@ -21,7 +23,7 @@ use Rattle.vale_entry.specs.declared.entry.Entry.{Entry}
 use Rattle.vale_entry.specs.declared.entry.Reply.{Reply}
 use Rattle.vale_entry.specs.declared.entry.Reply.TheVariants.{Gave}
 use Rattle.vale_entry.specs.World.{Port, open_port}
-use Rattle.vale_entry.specs.Arrivals.{arrivals_of, frame_arrival, given_at, given_arrivals}
+use Rattle.vale_entry.specs.Arrivals.{arrivals_of, part_arrival, delivered_parts, given_at, given_arrivals}
 use Rattle.vale_entry.specs.Delivered.{read_by, of_entry_in, frames_at}
 use Rattle.vale_entry.specs.Delivery.{ready_lots, delivered_frames}
 use Rattle.vale_entry.specs.Holdings.{delivered_buffers, is_buffer_index}
@@ -34,17 +36,17 @@ use Rattle.vale_entry.proofs.PortAt.{find-map}
 use Rattle.vale_entry.proofs.HistoryLaws.{history-stands}
 use Rattle.vale_own.specs.Own.{own_of, buffers_of_lease}
 use Rattle.vale_own.specs.Side.{IsSoundPort, buffers_on}
-use Rattle.vale_own.proofs.Buffers.{buffers-apart, came-length}
+use Rattle.vale_own.proofs.Buffers.{buffers-apart, came-length, size-parts}
 use Rattle.vale_own.proofs.OwnKept.{legal-split}
-use Rattle.vale_own.proofs.SideArrivals.{given-count}
 use Rattle.vale_own.proofs.SidePlaces.{in-port, in-ports}
 use Rattle.vale_book.specs.Reading.{read_ask}
 use Rattle.vale_fabric.specs.Fabrics.{entry_by}
 use Rattle.nm_user.specs.declared.receiving.Received.{Received}
 use Rattle.nm_user.specs.Sessions.{SessionState, IsThere}
 use Rattle.nm_user.specs.Receives.{IsReceived}
-use Rattle.nm_user.specs.Saving.{frames_before_tail, bytes_of_frame, read_of, ReceivedAreRead}
+use Rattle.nm_user.specs.Saving.{bytes_of_frame, read_of, ReceivedAreRead}
 use Rattle.nm_user.proofs.Receives.{call-of, stepped}
+use Rattle.nm_user.proofs.JoinedParts.{part_in_arrival}
 use Rattle.nm_user.proofs.SavingRing.{Came, frames-came}
 
 -- ---- the call
@@ -52,6 +54,10 @@ use Rattle.nm_user.proofs.SavingRing.{Came, frames-came}
 abbrev is-gave : Reply → Bool
 is-gave (Gave count to) = true
 is-gave _ = false
+
+abbrev count-gave : Reply → ℕ
+count-gave (Gave count to) = count
+count-gave _ = 0
 
 abbrev gives : Option (ℕ × Reply) → Bool
 gives made = option_map_or (λ (m : ℕ × Reply). is-gave m.1) made false
@@ -91,15 +97,14 @@ read-makes false n now port back count to own = refl
 
 -- ---- what is given to it
 
-arrived-bytes : (buffers : List ℕ) (frames : List Frame) → length buffers ≡ length frames → map (λ (a : Arrival). a.bytes) (map frame_arrival (zip buffers frames)) ≡ map bytes_of_frame frames
-arrived-bytes [] [] e = refl
-arrived-bytes [] (f ∷ fs) e = absurd (omega (arith, e))
-arrived-bytes (b ∷ bs) [] e = absurd (omega (arith, e))
-arrived-bytes (b ∷ bs) (f ∷ fs) e = ap (λ (rest : List (List ℕ)). f.bytes ∷ rest) (arrived-bytes bs fs (omega (arith, e)))
+arrived-parts : (buffers : List ℕ) (parts : List HeldPart) → length buffers ≡ length parts → map part_in_arrival (map part_arrival (zip buffers parts)) ≡ parts
+arrived-parts [] [] e = refl
+arrived-parts [] (p ∷ ps) e = absurd (omega (arith, e))
+arrived-parts (b ∷ bs) [] e = absurd (omega (arith, e))
+arrived-parts (b ∷ bs) (p ∷ ps) e = ap (λ (rest : List HeldPart). p ∷ rest) (arrived-parts bs ps (omega (arith, e)))
 
 pub record Given (now : Standing) (id : ℕ) (at : Port) : Type 0 where
-  pub count : length (given_at now id) ≡ length (delivered_frames at)
-  pub bytes : map (λ (a : Arrival). a.bytes) (given_at now id) ≡ map bytes_of_frame (delivered_frames at)
+  pub parts : map part_in_arrival (given_at now id) ≡ cut_frames (map bytes_of_frame (delivered_frames at))
 
 given : (pool : ℕ) (history : List Entry) (port : PortId) (at : Port) → IsLegal pool history → open_port (standing_of pool history).world.ports port.0 ≡ Some at → Given (standing_of pool history) port.0 at
 given pool history port at legal found =
@@ -108,16 +113,15 @@ given pool history port at legal found =
     let many = came-length now port.0 at found k.numbered k.held in
     let all : given_at now port.0 ≡ given_arrivals now at = ap (λ (o : Option Port). option_map_or (given_arrivals now) o []) found in
     record {
-      count = given-count now port at found k.numbered k.held;
-      bytes = ap (λ (came : List Arrival). map (λ (a : Arrival). a.bytes) came) all ∙ arrived-bytes (delivered_buffers at.id (length (ready_lots at)) now.holdings.ports) (delivered_frames at) many;
+      parts = ap (map part_in_arrival) all ∙ arrived-parts (delivered_buffers at.id (length (ready_lots at)) now.holdings.ports) (delivered_parts at) (many ∙ sym (size-parts (delivered_frames at)));
     }
 
 -- ---- the ring that has got it
 
--- the port that is found, once ports are exchanged
+-- the port that is found, once ports are exchanged: its receive ring has the same positions
 found-exchanged : (side : Side) (id : ℕ) (pushed : List Pushed) (ports : List OwnPort) (p : OwnPort) → find (λ (q : OwnPort). q.id.0 == id) ports ≡ Some p
-    → (q : OwnPort) × (find (λ (x : OwnPort). x.id.0 == id) (fold (after_slot side id) ports pushed) ≡ Some q)
-found-exchanged side id [] ports p found = (p, found)
+    → (q : OwnPort) × (find (λ (x : OwnPort). x.id.0 == id) (fold (after_slot side id) ports pushed) ≡ Some q) × (q.rx.ring ≡ p.rx.ring)
+found-exchanged side id [] ports p found = (p, found, refl)
 found-exchanged side id (x ∷ pushed) ports p found =
     let a = buffer_on side id ports x.at in
     let b = x.slot.buf_idx in
@@ -128,17 +132,19 @@ id-kept : (id : ℕ) (came : List Arrival) (b : Bool) (p : OwnPort) → (let cha
 id-kept id came true p = refl
 id-kept id came false p = refl
 
-pub record Got (s : OwnState) (id : ℕ) (came : List Arrival) : Type 0 where
+pub record Got (s : OwnState) (id : ℕ) (came : List Arrival) (p : OwnPort) : Type 0 where
   pub old : OwnPort
+  pub same : old.rx.ring ≡ p.rx.ring
   pub found : port_with_id (own_after_receive id came s) id ≡ Some (with_ring_on Rx (ring_after_receive came) old)
 
-got : (s : OwnState) (id : ℕ) (came : List Arrival) (p : OwnPort) → port_with_id s id ≡ Some p → Got s id came
+got : (s : OwnState) (id : ℕ) (came : List Arrival) (p : OwnPort) → port_with_id s id ≡ Some p → Got s id came p
 got s id came p found =
     let now = found-exchanged Rx id (pushed_on Rx id s) s.ports p found in
     let change = port_if id (with_ring_on Rx (ring_after_receive came)) in
     let passes = (place-of (λ (q : OwnPort). q.id.0 == id) (after_exchange Rx id s).ports now.0 now.1).passes in
     record {
       old = now.0;
+      same = now.2;
       found = find-map change (λ (q : OwnPort). q.id.0 == id) (λ q. ap (λ (n : ℕ). n == id) (id-kept id came (q.id.0 == id) q)) (after_exchange Rx id s).ports
           ∙ (ap (option_map change) now.1 ∙ ap (λ (b : Bool). Some (cond b (with_ring_on Rx (ring_after_receive came) now.0) now.0)) passes);
     }
@@ -154,13 +160,12 @@ at-most-one : (n m : ℕ) (is : Bool) → m ≤ cond is 1 0 → n ≤ m → n �
 at-most-one n m true most few = omega (arith, most, few)
 at-most-one n m false most few = omega (arith, most, few)
 
-came-here : {t : SessionState} (s : OwnState) (id : ℕ) (came : List Arrival) (p : OwnPort) → IsThere None t → t.own ≡ own_after_receive id came s → port_with_id s id ≡ Some p → Came t.own id came
-came-here {t} s id came p there own found =
-    let g = got s id came p found in
+came-here : {t : SessionState} (s : OwnState) (id : ℕ) (came : List Arrival) (p : OwnPort) (g : Got s id came p) → IsThere None t → t.own ≡ own_after_receive id came s
+    → Came t.own id (with_ring_on Rx (ring_after_receive came) g.old) came
+came-here {t} s id came p g there own =
     let port = with_ring_on Rx (ring_after_receive came) g.old in
     let here : port_with_id t.own id ≡ Some port = ap (λ (o : OwnState). port_with_id o id) own ∙ g.found in
     record {
-      port = port;
       found = here;
       sound = (each-find IsSoundPort (λ (q : OwnPort). q.id.0 == id) t.own.ports port there.side.sound.each here).rx;
       front = drop (pushed_count g.old.rx) g.old.rx.slots;
@@ -199,17 +204,13 @@ came-here {t} s id came p there own found =
 legal-before : (pool n : ℕ) (history : List Entry) → IsLegal pool history → IsLegal pool (take n history)
 legal-before pool n history legal = (legal-split pool (take n history) (drop n history) (subst (IsLegal pool) (sym (take-append-drop n history)) legal)).0
 
-abbrev reply-count : Reply → ℕ
-reply-count (Gave count to) = count
-reply-count _ = 0
-
 -- the read of a receive sync, and what it found
 pub record IsRead (s t : SessionState) (id : ℕ) (received : Received) : Type 0 where
   pub at : Port
   pub came : List Arrival
-  pub count : length came ≡ received.gave
-  pub bytes : map (λ (a : Arrival). a.bytes) came ≡ map bytes_of_frame (read_of t.fixed.pool t.knows.seen id received.entry)
+  pub parts : map part_in_arrival came ≡ cut_frames (map bytes_of_frame (read_of t.fixed.pool t.knows.seen id received.entry))
   pub own : t.own ≡ own_after_receive id came s.own
+  pub gave : received.gave ≡ length (read_of t.fixed.pool t.knows.seen id received.entry)
 
 pub is-read : {s t : SessionState} {id : ℕ} {received : Received} → IsThere None t → IsReceived s t id received → IsRead s t id received
 is-read {s} {t} {id} {received} there is =
@@ -220,7 +221,7 @@ is-read {s} {t} {id} {received} there is =
     let now = standing_of pool history in
     let back = back_in p in
     let pipe = is_pipe_name p.name in
-    let none = gave-none now (refusal_in Rx s.own p.rx) p.id _ s.id received.gave is.to sync.steps in
+    let none = gave-none now (refusal_in Rx s.own p p.rx) p.id _ s.id received.gave is.to sync.steps in
     let call : rx_call s.own p ≡ read_ask pipe p.id back = ap (λ (o : Option SyncFault). or_reset o p.id Rx (let get : Ask = Get p.id back in let sync : Ask = Sync p.id back in if pipe then get else sync)) none ∙ call-of pipe p.id back in
     let st = stepped pipe now p.id back s.id (Gave received.gave is.to) (subst (λ (ask : Ask). option_map session_and_reply (step now ask) ≡ Some (s.id, Gave received.gave is.to)) call sync.steps) in
     let same : p.id.0 ≡ id = eqb-true p.id.0 id (place-of (λ (q : OwnPort). q.id.0 == id) s.own.ports p is.at.found).passes in
@@ -234,12 +235,20 @@ is-read {s} {t} {id} {received} there is =
     record {
       at = st.at;
       came = given_at now p.id.0;
-      count = given-here.count ∙ ap reply-count st.reply_is;
-      bytes = given-here.bytes ∙ ap (λ (frames : List Frame). map bytes_of_frame frames) (sym numbered);
+      parts = given-here.parts ∙ ap (λ (frames : List Frame). cut_frames (map bytes_of_frame frames)) (sym numbered);
       own = sync.own ∙ (made ∙ ap (λ (n : ℕ). own_after_receive n (given_at now p.id.0) s.own) same);
+      gave = sym (ap count-gave st.reply_is) ∙ ap (λ (frames : List Frame). length frames) (sym numbered);
     }
 
 pub received-are-read : ReceivedAreRead
-received-are-read s t id received there is =
+received-are-read s t id received before there is =
+    let p = is.at.port in
     let r = is-read there is in
-    ap (frames_before_tail t.own id) (sym r.count) ∙ (frames-came t.own id r.came (came-here s.own id r.came is.at.port there r.own is.at.found) ∙ r.bytes)
+    let g = got s.own id r.came p is.at.found in
+    let port = with_ring_on Rx (ring_after_receive r.came) g.old in
+    let positions = (each-find IsSoundPort (λ (q : OwnPort). q.id.0 == id) s.own.ports p before.side.sound.each is.at.found).rx.positions in
+    let frames = map bytes_of_frame (read_of t.fixed.pool t.knows.seen id received.entry) in
+    let size : g.old.rx.ring.size ≡ p.rx.ring.size = ap (λ (ring : RingState). ring.size) g.same in
+    let tail : g.old.rx.ring.last_tail ≡ p.rx.ring.tail = ap (λ (ring : RingState). ring.last_tail) g.same ∙ sym positions.one_tail in
+    let within : p.rx.ring.tail < g.old.rx.ring.size = (let inside = positions.within in omega (arith, size, inside)) in
+    frames-came t.own id p.rx.ring.tail port r.came frames (came-here s.own id r.came p g there r.own) within (ap (λ (at : ℕ). step_on g.old.rx.ring.size at (length r.came)) tail) r.parts

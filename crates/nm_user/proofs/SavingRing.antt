@@ -1,26 +1,32 @@
--- The frames before the tail of a receive ring that has just got them.
+-- The frames in the last slots of a receive ring that has just got them.
 use Rattle.std.proofs.Common.{ℕ, suc, ◌+◌, ◌-◌, ◌<◌, ◌≤◌, ◌≡◌, ◌⊎◌, ◌==◌, Bool, true, false, ◌&&◌, nat_lt, List, [], ◌∷◌, ◌++◌, map, fold, take, length, get_or, Option, Some, None, option_map, refl, sym, ◌∙◌, ap, subst, arith, length-append, append_assoc}
-use Rattle.std.specs.Prelude.{option_and_then, if◌then◌else◌}
+use Rattle.std.specs.Prelude.{option_and_then, unwrap_or, if◌then◌else◌, ◌%◌}
+use Rattle.std.specs.List.{AllByRecursion as Each}
+use Rattle.std.specs.Option.{option_map_or}
+use Rattle.std.proofs.Math.Nat.{mod-eq_of_lt}
 use Rattle.std.proofs.lemmas.Bool.{eq-eqb}
 use Rattle.std.proofs.lemmas.List.{length-map, map-append, length-set, get_or-set_same as get_or-set}
 use Rattle.std.proofs.lemmas.List.Sums.{fold-append}
 use Rattle.std.proofs.Math.Seq.{get_or-append_seam, take-append_seam}
+use Rattle.nm_types.proofs.Tests.{less_true}
 use Rattle.nm_types.specs.declared.id.Side.TheVariants.{Rx}
 use Rattle.nm_types.specs.Buffers.{cleared_but}
-use Rattle.nm_types.specs.Positions.{dist, step_on, is_user_slot}
+use Rattle.nm_types.specs.Parts.{cut_frames}
+use Rattle.nm_types.specs.Positions.{dist, step_on, slots_from, is_user_slot}
 use Rattle.nm_types.specs.Slots.{SlotState}
 use Rattle.nm_types.specs.SyncChecks.{contains_index}
 use Rattle.nm_types.specs.OwnPorts.{OwnRing, OwnPort, OwnState, Arrival, bytes_at, blank_slot, port_with_id, ring_at, ring_on, slot_in, named_of, user_buffers_if}
 use Rattle.nm_types.specs.OwnSyncs.{published, with_arrival, buffers_of_arrivals}
-use Rattle.nm_types.proofs.RingSteps.{dist-below, dist-cases, step_on-cases, step_on-below}
-use Rattle.nm_types.proofs.Tests.{less_true}
+use Rattle.nm_types.proofs.RingSteps.{dist-below, dist-cases, dist-step_on, step_on-cases, step_on-below, step_on-size, step_on-step_on, slots_from-add}
 use Rattle.nm_own.specs.ExtraChain.{named_bytes}
 use Rattle.vale_entry.specs.Holdings.{contains}
 use Rattle.vale_entry.proofs.Counting.{count_of, count_of-cons, count_of-append}
 use Rattle.vale_own.proofs.SideMoves.{one_if, came-other}
 use Rattle.vale_own.proofs.SidePlaces.{in-first, in-second, named-in-ports}
 use Rattle.vale_own.specs.Side.{IsRxRing}
-use Rattle.nm_user.specs.Saving.{before_tail, slot_before_tail, frame_of_slot, frame_before_tail, frames_before_tail, bytes_or_none}
+use Rattle.nm_port.specs.Gathered.{gathered}
+use Rattle.nm_user.specs.Saving.{before_tail, slot_before_tail, bytes_or_none, readable_bytes, slot_or_blank, count_to_tail, slots_to_tail, frames_in_slots, frames_from, bytes_of_frame}
+use Rattle.nm_user.proofs.JoinedParts.{Holds, part_in_arrival, joined-again}
 
 -- ---- positions
 
@@ -41,9 +47,8 @@ dist-before size accepted tail back a t some few =
         → (s ≡ t + k) ⊎ (s + size ≡ t + k) → (a + e ≡ s) ⊎ (a + e ≡ s + size) → e ≡ d - back
     found e d s size a t k back el dl sl rest some few before stepped after = grind arith
 
--- a side whose port's receive ring ends with these frames, each in a buffer of its own
-pub record Came (s : OwnState) (id : ℕ) (came : List Arrival) : Type 0 where
-  pub port : OwnPort
+-- a side whose port's receive ring ends with these parts of frames, each in a buffer of its own
+pub record Came (s : OwnState) (id : ℕ) (port : OwnPort) (came : List Arrival) : Type 0 where
   pub found : port_with_id s id ≡ Some port
   pub sound : IsRxRing port.rx
   pub front : List SlotState
@@ -55,11 +60,11 @@ pub record Came (s : OwnState) (id : ℕ) (came : List Arrival) : Type 0 where
   pub once : (b : ℕ) → count_of b (buffers_of_arrivals came) ≤ 1
   pub within : (b : ℕ) → 1 ≤ count_of b (buffers_of_arrivals came) → b < length s.bytes
 
--- ---- one frame
+-- ---- one part
 
-module _ (s : OwnState) (id : ℕ) (done rest : List Arrival) (a : Arrival) (c : Came s id (done ++ a ∷ rest)) where
+module _ (s : OwnState) (id : ℕ) (port : OwnPort) (done rest : List Arrival) (a : Arrival) (c : Came s id port (done ++ a ∷ rest)) where
   abbrev r : OwnRing
-  r = c.port.rx
+  r = port.rx
 
   abbrev back : ℕ
   back = suc (length rest)
@@ -130,8 +135,8 @@ module _ (s : OwnState) (id : ℕ) (done rest : List Arrival) (a : Arrival) (c :
       let came : contains a.buffer (buffers_of_arrivals (done ++ a ∷ rest)) ≡ true =
       ap (contains a.buffer) (map-append (λ (x : Arrival). x.buffer) done (a ∷ rest)) ∙ in-second a.buffer (buffers_of_arrivals done) (a.buffer ∷ buffers_of_arrivals rest) first in
       let held : contains a.buffer r.held ≡ true = ap (contains a.buffer) c.held ∙ in-second a.buffer c.behind (buffers_of_arrivals (done ++ a ∷ rest)) came in
-      named-in-ports id s.ports c.port a.buffer c.found
-      (in-second a.buffer (user_buffers_if c.port.tx) (r.held ++ c.port.extra) (in-first a.buffer r.held c.port.extra held))
+      named-in-ports id s.ports port a.buffer c.found
+      (in-second a.buffer (user_buffers_if port.tx) (r.held ++ port.extra) (in-first a.buffer r.held port.extra held))
     where
       first-is : (a.buffer == a.buffer) ≡ true → contains a.buffer (a.buffer ∷ buffers_of_arrivals rest) ≡ true
       first-is e = rw e refl
@@ -158,26 +163,79 @@ module _ (s : OwnState) (id : ℕ) (done rest : List Arrival) (a : Arrival) (c :
           let some = long done c.base in
           omega (arith, n, all, some)
 
-  frame-is : frame_before_tail s id back ≡ Some a.bytes
-  frame-is =
-      let ring : ring_at Rx s id ≡ Some r = ap (option_and_then (ring_on Rx)) c.found in
-      let bytes : named_bytes s a.buffer ≡ Some (cleared_but a.bytes) = if-so (contains_index (named_of s) a.buffer) (bytes_at s a.buffer) named ∙ ap (λ (x : List ℕ). Some x) bytes-are in
-      ap (λ (o : Option OwnRing). option_and_then (frame_of_slot s) (option_and_then (slot_before_tail back) o)) ring
-      ∙ (ap (option_and_then (frame_of_slot s)) found-slot
-      ∙ (ap (option_map (take (length a.bytes))) bytes ∙ ap (λ (x : List ℕ). Some x) (take-append_seam a.bytes _)))
+  readable : readable_bytes s a.buffer ≡ cleared_but a.bytes
+  readable = ap bytes_or_none (if-so (contains_index (named_of s) a.buffer) (bytes_at s a.buffer) named) ∙ bytes-are
     where
       if-so : (b : Bool) (x : List ℕ) → b ≡ true → (if b then Some x else None) ≡ Some x
       if-so true x e = refl
       if-so false x e = absurd cc
 
+  part-is : take (length a.bytes) (readable_bytes s a.buffer) ≡ a.bytes
+  part-is = ap (take (length a.bytes)) readable ∙ take-append_seam a.bytes _
+
 -- ---- all of them
 
-came-from : (s : OwnState) (id : ℕ) (done rest : List Arrival) → Came s id (done ++ rest) → frames_before_tail s id (length rest) ≡ map (λ (a : Arrival). a.bytes) rest
-came-from s id done [] c = refl
-came-from s id done (a ∷ rest) c =
-    let next = came-from s id (done ++ a ∷ []) rest (subst (Came s id) (sym (append_assoc done (a ∷ []) rest)) c) in
-    ap (λ (frame : Option (List ℕ)). bytes_or_none frame ∷ frames_before_tail s id (length rest)) (frame-is s id done rest a c)
-    ∙ ap (λ (frames : List (List ℕ)). a.bytes ∷ frames) next
+-- the slots that came, one after another
+next-place : (size tail n : ℕ) → suc n ≤ size → step_on size (step_on size tail (size - suc n)) 1 ≡ step_on size tail (size - n)
+next-place size tail n few = step_on-step_on size tail (size - suc n) 1 ∙ ap (step_on size tail) (omega (arith, few))
 
-pub frames-came : (s : OwnState) (id : ℕ) (came : List Arrival) → Came s id came → frames_before_tail s id (length came) ≡ map (λ (a : Arrival). a.bytes) came
-frames-came s id came c = came-from s id [] came c
+slots-split : (f : ℕ → SlotState) (size at n : ℕ) → at < size → map f (slots_from size at (suc n)) ≡ f at ∷ map f (slots_from size (step_on size at 1) n)
+slots-split f size at n within =
+    let one : 1 + n ≡ suc n = omega arith in
+    let here : step_on size at 0 ≡ at = ap (λ (m : ℕ). m % size) (omega arith) ∙ mod-eq_of_lt within in
+    ap (λ (m : ℕ). map f (slots_from size at m)) (sym one)
+    ∙ (ap (map f) (slots_from-add size at 1 n) ∙ ap (λ (m : ℕ). f m ∷ map f (slots_from size (step_on size at 1) n)) here)
+
+slots-came : (s : OwnState) (id : ℕ) (port : OwnPort) (done rest : List Arrival) → Came s id port (done ++ rest)
+    → map (slot_or_blank port.rx) (slots_from port.rx.ring.size (before_tail (length rest) port.rx.ring) (length rest)) ≡ map published rest
+slots-came s id port done [] c = refl
+slots-came s id port done (a ∷ rest) c =
+    let r = port.rx in
+    let ring = r.ring in
+    let at = before_tail (suc (length rest)) ring in
+    let n = reach s id port done rest a c in
+    let below = dist-below ring.size ring.accepted_head ring.tail c.sound.positions.accepted in
+    let first : slot_or_blank r at ≡ published a = ap (λ (o : Option SlotState). unwrap_or o blank_slot) (found-slot s id port done rest a c) in
+    let next : step_on ring.size at 1 ≡ before_tail (length rest) ring = next-place ring.size ring.tail (length rest) (omega (arith, n, below)) in
+    let others = slots-came s id port (done ++ a ∷ []) rest (subst (Came s id port) (sym (append_assoc done (a ∷ []) rest)) c) in
+    slots-split (slot_or_blank r) ring.size at (length rest) (step_on-below ring.size ring.tail (ring.size - suc (length rest)) c.sound.positions.within)
+    ∙ (ap (λ (x : SlotState). x ∷ map (slot_or_blank r) (slots_from ring.size (step_on ring.size at 1) (length rest))) first
+    ∙ ap (λ (xs : List SlotState). published a ∷ xs) (ap (λ (from : ℕ). map (slot_or_blank r) (slots_from ring.size from (length rest))) next ∙ others))
+
+parts-came : (s : OwnState) (id : ℕ) (port : OwnPort) (done rest : List Arrival) → Came s id port (done ++ rest) → Each (Holds (readable_bytes s)) rest
+parts-came s id port done [] c = tt
+parts-came s id port done (a ∷ rest) c =
+    (part-is s id port done rest a c, parts-came s id port (done ++ a ∷ []) rest (subst (Came s id port) (sym (append_assoc done (a ∷ []) rest)) c))
+
+-- they are fewer than there are slots
+came-few : (s : OwnState) (id : ℕ) (port : OwnPort) (came : List Arrival) → Came s id port came → length came < port.rx.ring.size
+came-few s id port came c =
+    let ring = port.rx.ring in
+    let all = ap (λ (xs : List SlotState). length xs) c.slots ∙ (length-append c.front (map published came) ∙ ap (λ (n : ℕ). length c.front + n) (length-map came published)) in
+    let held = c.sound.slots in
+    let below = dist-below ring.size ring.accepted_head ring.last_tail c.sound.positions.accepted in
+    omega (arith, all, held, below)
+
+-- where the tail was before them
+old-place : (size old n : ℕ) → old < size → n ≤ size → step_on size (step_on size old n) (size - n) ≡ old
+old-place size old n within few = step_on-step_on size old n (size - n) ∙ (ap (step_on size old) (omega (arith, few)) ∙ step_on-size size old within)
+
+-- the frames in them, which were cut
+pub frames-came : (s : OwnState) (id old : ℕ) (port : OwnPort) (came : List Arrival) (frames : List (List ℕ)) → Came s id port came → old < port.rx.ring.size → port.rx.ring.tail ≡ step_on port.rx.ring.size old (length came)
+    → map part_in_arrival came ≡ cut_frames frames → map bytes_of_frame (frames_from s id old) ≡ frames
+frames-came s id old port came frames c within moved cut =
+    let r = port.rx in
+    let ring = r.ring in
+    let n = length came in
+    let few = came-few s id port came c in
+    let at : ring_at Rx s id ≡ Some r = ap (option_and_then (ring_on Rx)) c.found in
+    let place : before_tail n ring ≡ old = ap (λ (tail : ℕ). step_on ring.size tail (ring.size - n)) moved ∙ old-place ring.size old n within (omega (arith, few)) in
+    let test : nat_lt old ring.size ≡ true = less_true old ring.size within in
+    let far : dist ring.size old ring.tail ≡ n = ap (dist ring.size old) moved ∙ dist-step_on ring.size old n within few in
+    let count : count_to_tail old ring ≡ n = rw test far in
+    let slots : slots_to_tail old r ≡ map published came =
+    ap (λ (m : ℕ). map (slot_or_blank r) (slots_from ring.size old m)) count
+    ∙ (ap (λ (from : ℕ). map (slot_or_blank r) (slots_from ring.size from n)) (sym place) ∙ slots-came s id port [] came c) in
+    ap (λ (o : Option OwnRing). map bytes_of_frame (option_map_or (frames_in_slots s old) o [])) at
+    ∙ (ap (λ (xs : List SlotState). map bytes_of_frame (gathered (readable_bytes s) [] false xs)) slots
+    ∙ joined-again (readable_bytes s) came frames (parts-came s id port [] came c) cut)

@@ -1,14 +1,15 @@
 -- A sync that sends what is pushed.
-use Rattle.std.proofs.Common.{ℕ, ◌-◌, ◌<◌, ◌≤◌, ◌==◌, ◌≡◌, Bool, true, false, List, [], ◌∷◌, ◌++◌, length, take, sym, ap, subst, arith, refl, ◌∙◌, Option, Some, None, IsSome, append-nil, inr, ◌&&◌, nat_le, ◌^◌}
+use Rattle.std.proofs.Common.{ℕ, nat_le, ◌-◌, ◌≤◌, ◌==◌, ◌≡◌, Bool, true, false, List, [], ◌∷◌, ◌++◌, length, take, sym, ap, subst, arith, refl, ◌∙◌, Option, Some, None, IsSome, append-nil, inr, ◌&&◌}
 use Rattle.std.specs.Prelude.{IfSome, option_map, option_and_then, if◌then◌else◌}
+use Rattle.std.specs.List.{list_all}
 use Rattle.std.specs.Option.{option_map_or}
-use Rattle.std.proofs.lemmas.Bool.{eqb-true, and_parts, leb-true}
+use Rattle.std.proofs.lemmas.Bool.{eqb-true, and_parts}
 use Rattle.std.proofs.lemmas.List.{take-append-le, length-map}
-use Rattle.nm_types.specs.Frames.{Frame}
+use Rattle.nm_types.specs.Frames.{Frame, size_of_frames}
 use Rattle.nm_types.specs.Names.{is_pipe_name, is_switch_port_name}
-use Rattle.nm_types.specs.Sendable.{is_sendable}
 use Rattle.nm_types.specs.Limits.{most_batch}
-use Rattle.nm_types.specs.Slots.{Pushed, pushed_frames, frame_at}
+use Rattle.nm_types.specs.Sendable.{fit_slots, is_frame, is_sendable}
+use Rattle.nm_types.specs.Slots.{pushed_frames}
 use Rattle.nm_types.specs.Positions.{pushed_slots}
 use Rattle.nm_types.specs.declared.id.PortId.{PortId}
 use Rattle.nm_types.specs.declared.id.Side.TheVariants.{Tx}
@@ -79,7 +80,7 @@ pub record Passes (pipe : Bool) (own : OwnState) (port : PortId) : Type 0 where
   pub tx : HasTx own port.0
   pub id_is : tx.port.id ≡ port
   pub ring_is : ring_at Tx own port.0 ≡ Some tx.ring
-  pub passes : refusal_in Tx own tx.ring ≡ None
+  pub passes : refusal_in Tx own tx.port tx.ring ≡ None
   pub is : tx_call own tx.port tx.ring ≡ as_pushed pipe own tx.port tx.ring
 
 if-pushed : (pipe : Bool) (own : OwnState) (port : OwnPort) (ring : OwnRing)
@@ -91,7 +92,7 @@ pub passed : {pipe : Bool} {own : OwnState} (port : PortId) → PassesTx pipe ow
 passed {pipe} {own} port p =
     let tx = has-tx own port.0 p.ring in
     let at : ring_at Tx own port.0 ≡ Some tx.ring = ap (option_and_then (ring_on Tx)) tx.found ∙ tx.has in
-    let passes : refusal_in Tx own tx.ring ≡ None = sym (ap (option_and_then (refusal_in Tx own)) at) ∙ p.passes in
+    let passes : refusal_in Tx own tx.port tx.ring ≡ None = sym (ap (λ (o : Option OwnRing). option_and_then (refusal_in Tx own tx.port) o) tx.has) ∙ (sym (ap (option_and_then (λ (p : OwnPort). option_and_then (refusal_in Tx own p) (ring_on Tx p))) tx.found) ∙ p.passes) in
     let name : is_pipe_name tx.port.name ≡ pipe = subst (λ (o : Option OwnPort). IfSome o (λ (q : OwnPort). is_pipe_name q.name ≡ pipe)) tx.found p.name in
     let place = place-of (λ (q : OwnPort). q.id.0 == port.0) own.ports tx.port tx.found in
     let put : Ask = as_pushed true own tx.port tx.ring in
@@ -109,9 +110,9 @@ passed {pipe} {own} port p =
 pub record Sends (own : OwnState) (port : PortId) (frames : List Frame) : Type 0 where
   pub tx : HasTx own port.0
   pub id_is : tx.port.id ≡ port
-  pub passes : refusal_in Tx own tx.ring ≡ None
+  pub passes : refusal_in Tx own tx.port tx.ring ≡ None
   pub is : tx_call own tx.port tx.ring ≡ Send port frames
-  pub count : length frames ≡ pushed_count tx.ring
+  pub count : length (pushed_on Tx port.0 own) ≡ pushed_count tx.ring
 
 sends : (own : OwnState) (port : PortId) (frames : List Frame) → PassesTx false own port.0 → frames ≡ pushed_frames (bytes_at own) (pushed_on Tx port.0 own) → Sends own port frames
 sends own port frames p frames-are =
@@ -124,12 +125,11 @@ sends own port frames p frames-are =
       id_is = c.id_is;
       passes = c.passes;
       is = c.is ∙ (ap (λ (i : PortId). Send i (pushed_frames (bytes_at own) (pushed_in Tx ring))) c.id_is ∙ ap (Send port) these);
-      count = ap (λ (fs : List Frame). length fs) (sym these)
-          ∙ (length-map (pushed_in Tx ring) (λ (q : Pushed). frame_at (bytes_at own) q.slot) ∙ length-map (pushed_slots ring.ring ring.ring.head) (pushed_at Tx ring));
+      count = ap (λ (o : Option OwnRing). length (option_map_or (pushed_in Tx) o [])) c.ring_is ∙ length-map (pushed_slots ring.ring ring.ring.head) (pushed_at Tx ring);
     }
 
 -- the call of a transmit sync, whose refusal has numbers that fit, is the session's to ask
-pub tx-asks : {s : SessionState} {port : PortId} (ask : Ask) → IsThere None s → (tx : HasTx s.own port.0) → tx.port.id ≡ port → RefusalFits (refusal_in Tx s.own tx.ring) → tx_call s.own tx.port tx.ring ≡ ask
+pub tx-asks : {s : SessionState} {port : PortId} (ask : Ask) → IsThere None s → (tx : HasTx s.own port.0) → tx.port.id ≡ port → RefusalFits (refusal_in Tx s.own tx.port tx.ring) → tx_call s.own tx.port tx.ring ≡ ask
     → asks (standing_seen s.fixed s.knows) s.id ask ≡ true
 tx-asks {s} {port} ask t tx id_is fits is =
     let pool = s.fixed.pool in
@@ -273,7 +273,7 @@ IsMadeBy s w ask reply new = (a : Answers s.fixed s.knows w ask reply) × (a.mak
 
 pub sent-tells : {s : SessionState} {w x : Knowing} {port : PortId} {frames : List Frame} {shares : Shares} (o : OffersState) (sent : Sent) → IsThere None s → Sends s.own port frames
     → Answers s.fixed s.knows w (Send port frames) (Offered o.short o.lone (dests_wanted o.wants)) → IsOffered (seen_in s.fixed w) frames o → Ends s w x shares
-    → sent.entry ≡ o.entry → sent.pushed ≡ length frames → sent.short ≡ o.short → sent.lone ≡ o.lone → shares_in sent ≡ shares
+    → sent.entry ≡ o.entry → sent.pushed ≡ length (pushed_on Tx port.0 s.own) → sent.short ≡ o.short → sent.lone ≡ o.lone → shares_in sent ≡ shares
     → IsSent s (record s { knows = x; own = own_after_send port.0 s.own }) port.0 sent
 unfolding synced
 sent-tells {s} {w} {x} {port} {frames} {shares} o sent t c a offered ends entry pushed short lone shares-are =
@@ -314,14 +314,14 @@ ready {seen} {now} {own} port frames e f there passes are =
     let same : now.own ≡ own = ap (λ (s : SessionState). s.own) at in
     record { there = subst (IsThere None) (e ∙ at) there; sends = sends own port frames (subst (λ (o : OwnState). PassesTx false o port.0) same passes) are }
 
-pub few-frames : {s : SessionState} {port : PortId} {frames : List Frame} → Ready s port frames → (n : ℕ) → n ≡ length frames → n < 2 ^ 32
-few-frames {s} {port} {frames} k n is =
-    let fits = send-fits k.there k.sends in
-    let few : length frames ≤ 1023 = leb-true (length frames) most_batch (and_parts (nat_le (length frames) most_batch) _ fits).0 in
-    omega (arith, few, is)
-
 pub may-send : {s : SessionState} {port : PortId} {frames : List Frame} → Ready s port frames → MayAsk s.fixed s.knows (Send port frames)
 may-send k = may k.there (send-asks k.there k.sends)
+
+-- each of them is a frame
+pub send-frames : {s : SessionState} {port : PortId} {frames : List Frame} → Ready s port frames → list_all is_frame frames ≡ true
+send-frames {s} {port} {frames} k =
+    let most = and_parts (nat_le (length frames) most_batch) (fit_slots most_batch frames) (send-fits k.there k.sends) in
+    (and_parts (nat_le (size_of_frames frames) most_batch) (list_all is_frame frames) most.1).1
 
 -- ---- as the caller sees it
 
@@ -338,7 +338,7 @@ there-at seen {own} {new} {w} {x} {port} {frames} {shares} o k made a ends =
 pub sent-at : {seen now : SessionState} {own new : OwnState} {w x : Knowing} {port : PortId} {frames : List Frame} {shares : Shares} (o : OffersState) (sent : Sent) → seen ≡ now → seen.own ≡ own
     → Ready (record seen { own = own }) port frames → new ≡ own_after_send port.0 own
     → Answers seen.fixed seen.knows w (Send port frames) (Offered o.short o.lone (dests_wanted o.wants)) → IsOffered (seen_in seen.fixed w) frames o → Ends (record seen { own = own }) w x shares
-    → sent.entry ≡ o.entry → sent.pushed ≡ length frames → sent.short ≡ o.short → sent.lone ≡ o.lone → shares_in sent ≡ shares
+    → sent.entry ≡ o.entry → sent.pushed ≡ length (pushed_on Tx port.0 own) → sent.short ≡ o.short → sent.lone ≡ o.lone → shares_in sent ≡ shares
     → IsSent now (record seen { knows = x; own = new }) port.0 sent
 sent-at {seen} {now} {own} {new} {w} {x} {port} {frames} {shares} o sent e f k made a offered ends entry pushed short lone shares-are =
     subst (λ (s : SessionState). IsSent s (record seen { knows = x; own = new }) port.0 sent) (sym (as-own e f))

@@ -73,7 +73,7 @@ names-pending : (t : OwnRing) (ats : List ℕ) → Each (IsPending t) ats → ma
 names-pending t [] all = refl
 names-pending t (at ∷ ats) all = ap₂ (λ (b : ℕ) (bs : List ℕ). b ∷ bs) (sym all.0.named) (names-pending t ats all.1)
 
-offered-named : (id : ℕ) (s : OwnState) (p : OwnPort) (r : OwnRing) → IsSound s → ((b : ℕ) → count_of b (buffers_on s) ≤ 1) → port_with_id s id ≡ Some p → p.tx ≡ Some r → refusal_in Tx s r ≡ None
+offered-named : (id : ℕ) (s : OwnState) (p : OwnPort) (r : OwnRing) → IsSound s → ((b : ℕ) → count_of b (buffers_on s) ≤ 1) → port_with_id s id ≡ Some p → p.tx ≡ Some r → refusal_in Tx s p r ≡ None
     → offered_buffers id s ≡ map (name-in r) (offered_slots r)
 offered-named id s p r sound once found has passes =
     let g = traded Tx id s p r sound once found has passes in
@@ -120,7 +120,7 @@ pub record AreOffered (own : OwnState) (port : PortId) (gots : List Got) : Type 
 pub record Puts (own : OwnState) (port : PortId) (items : List Item) : Type 0 where
   pub tx : HasTx own port.0
   pub id_is : tx.port.id ≡ port
-  pub passes : refusal_in Tx own tx.ring ≡ None
+  pub passes : refusal_in Tx own tx.port tx.ring ≡ None
   pub is : tx_call own tx.port tx.ring ≡ Put port items
 
 pub puts : {s : SessionState} (port : PortId) (gots : List Got) → IsThere None s → PassesTx true s.own port.0 → AreOffered s.own port gots → Puts s.own port (items_of gots)

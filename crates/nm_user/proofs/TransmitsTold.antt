@@ -75,7 +75,7 @@ module _ {s : SessionState} {port : PortId} {gots : List Got} (k : CanPut s port
   call = tx_call s.own k.puts_are.tx.port k.puts_are.tx.ring
 
   abbrev Says : SessionState → SyncFault → Type 0
-  Says t fault = SyncsNot s t call (refusal_in Tx s.own k.puts_are.tx.ring) fault
+  Says t fault = SyncsNot s t call (refusal_in Tx s.own k.puts_are.tx.port k.puts_are.tx.ring) fault
 
   none-of : (w : Knowing) (fault : StepFault) → MadeNone s (record s { knows = w }) (Put port (items_of gots)) fault → MadeNone s (record s { knows = w }) call fault
   none-of w fault none = subst (λ (ask : Ask). MadeNone s (record s { knows = w }) ask fault) (sym k.puts_are.is) none

@@ -28,7 +28,7 @@ pub record IsReceived (s t : SessionState) (id : ℕ) (received : Received) : Ty
 
 pub record ReceivesNot (s t : SessionState) (id : ℕ) (fault : SyncFault) : Type 0 where
   pub at : HasPort s.own id
-  pub not : SyncsNot s t (rx_call s.own at.port) (refusal_in Rx s.own at.port.rx) fault
+  pub not : SyncsNot s t (rx_call s.own at.port) (refusal_in Rx s.own at.port at.port.rx) fault
 
 -- why a sync of a port's ring failed
 abbrev pub RingNot : Side → SessionState → SessionState → ℕ → SyncFault → Type 0

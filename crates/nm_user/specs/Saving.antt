@@ -1,12 +1,13 @@
 -- What a session finds before the tail of a port's receive ring, and what its port has read.
-use Rattle.std.specs.Prelude.{ℕ, zero, suc, ◌≡◌, ◌-◌, List, [], ◌∷◌, map, take, slice_get, Option, None, option_map, option_and_then}
+use Rattle.std.specs.Prelude.{ℕ, ◌≡◌, ◌-◌, nat_lt, false, if◌then◌else◌, List, [], map, take, slice_get, unwrap_or, Option, None, option_map, option_and_then}
 use Rattle.std.specs.Option.{option_map_or}
 use Rattle.nm_types.specs.declared.id.Side.TheVariants.{Rx}
 use Rattle.nm_types.specs.Frames.{Frame}
-use Rattle.nm_types.specs.Positions.{RingState, step_on}
+use Rattle.nm_types.specs.Positions.{RingState, dist, step_on, slots_from}
 use Rattle.nm_types.specs.Slots.{SlotState}
-use Rattle.nm_types.specs.OwnPorts.{OwnRing, OwnState, ring_at}
-use Rattle.nm_types.specs.OwnEdits.{user_slot}
+use Rattle.nm_types.specs.OwnPorts.{OwnRing, OwnState, blank_slot, ring_at}
+use Rattle.nm_types.specs.OwnEdits.{user_slot, user_slot_at}
+use Rattle.nm_port.specs.Gathered.{gathered}
 use Rattle.nm_own.specs.ExtraChain.{named_bytes}
 use Rattle.vale_entry.specs.declared.entry.Entry.{Entry}
 use Rattle.vale_entry.specs.Legal.{world_of}
@@ -23,8 +24,8 @@ before_tail back ring = step_on ring.size ring.tail (ring.size - back)
 abbrev pub slot_before_tail : ℕ → OwnRing → Option SlotState
 slot_before_tail back r = user_slot Rx r (before_tail back r.ring)
 
--- the frame of a slot: the first bytes, as many as its length says, of the buffer that it names; none
--- where the user may not name that buffer
+-- the part of a frame in a slot: the first bytes, as many as its length says, of the buffer that it names;
+-- none where the user may not name that buffer
 abbrev pub frame_of_slot : OwnState → SlotState → Option (List ℕ)
 frame_of_slot s slot = option_map (take slot.len) (named_bytes s slot.buf_idx)
 
@@ -36,10 +37,30 @@ frame_before_tail s id back =
 abbrev pub bytes_or_none : Option (List ℕ) → List ℕ
 bytes_or_none frame = option_map_or (λ (bytes : List ℕ). bytes) frame []
 
--- the frames in so many slots before the tail, in the order of the ring
-abbrev pub frames_before_tail : OwnState → ℕ → ℕ → List (List ℕ)
-frames_before_tail s id zero = []
-frames_before_tail s id (suc back) = bytes_or_none (frame_before_tail s id (suc back)) ∷ frames_before_tail s id back
+-- the bytes of a buffer that the user may name, and none of another
+abbrev pub readable_bytes : OwnState → ℕ → List ℕ
+readable_bytes s idx = bytes_or_none (named_bytes s idx)
+
+-- the user's slot at a position, a blank one where there is none
+abbrev pub slot_or_blank : OwnRing → ℕ → SlotState
+slot_or_blank r at = unwrap_or (user_slot Rx r at) blank_slot
+
+abbrev pub slot_or_blank_at : OwnState → ℕ → ℕ → SlotState
+slot_or_blank_at s id at = unwrap_or (user_slot_at Rx s id at) blank_slot
+
+-- how many slots there are from a position on to before the tail; none where it is no position
+abbrev pub count_to_tail : ℕ → RingState → ℕ
+count_to_tail at ring = if nat_lt at ring.size then dist ring.size at ring.tail else 0
+
+abbrev pub slots_to_tail : ℕ → OwnRing → List SlotState
+slots_to_tail at r = map (slot_or_blank r) (slots_from r.ring.size at (count_to_tail at r.ring))
+
+-- the frames in these slots, each joined of its parts; one that does not end in them has what is there
+abbrev pub frames_in_slots : OwnState → ℕ → OwnRing → List Frame
+frames_in_slots s at r = gathered (readable_bytes s) [] false (slots_to_tail at r)
+
+abbrev pub frames_from : OwnState → ℕ → ℕ → List Frame
+frames_from s id at = option_map_or (frames_in_slots s at) (ring_at Rx s id) []
 
 abbrev pub bytes_of_frame : Frame → List ℕ
 bytes_of_frame frame = frame.bytes
@@ -49,9 +70,9 @@ abbrev pub read_of : ℕ → List Entry → ℕ → ℕ → List Frame
 read_of pool history id number =
     option_map_or (of_entry_in read_by id (world_of pool (take (number - 1) history))) (slice_get history (number - 1)) []
 
--- what a receive sync brings stands before the tail, in order: what its entry reads
+-- what a receive sync brings stands from where the tail was on, in order: what its entry reads
 abbrev pub ReceivedAreRead : Type 0
 ReceivedAreRead =
-    (s t : SessionState) (id : ℕ) (received : Received) → IsThere None t → IsReceived s t id received
-    → frames_before_tail t.own id received.gave
+    (s t : SessionState) (id : ℕ) (received : Received) → IsThere None s → IsThere None t → (is : IsReceived s t id received)
+    → map bytes_of_frame (frames_from t.own id is.at.port.rx.ring.tail)
     ≡ map bytes_of_frame (read_of t.fixed.pool t.knows.seen id received.entry)

@@ -7,8 +7,7 @@ use Rattle.nm_types.specs.declared.fault.SyncFault.{SyncFault}
 use Rattle.nm_types.specs.declared.fault.SyncFault.TheVariants.{PeerGone, RecordFull, NoMemory}
 use Rattle.nm_types.specs.declared.id.Side.TheVariants.{Tx}
 use Rattle.nm_types.specs.Names.{is_pipe_name}
-use Rattle.nm_types.specs.OwnPorts.{OwnRing, OwnPort, OwnState, port_with_id, ring_at, pushed_count, refusal_in}
-use Rattle.nm_port.specs.Own.{refusal_at}
+use Rattle.nm_types.specs.OwnPorts.{OwnRing, OwnPort, OwnState, port_with_id, ring_at, pushed_count, refusal_in, refusal_at}
 use Rattle.nm_turn.specs.Numbered.{numbered}
 use Rattle.nm_turn.specs.Passes.{Told}
 use Rattle.nm_turn.specs.Shares.{IsWhole}
@@ -114,4 +113,4 @@ SyncsNot s t ask refusal fault = (refusal ≡ Some fault) × Made s t ask replie
 
 pub record TransmitsNot (s t : SessionState) (id : ℕ) (fault : SyncFault) : Type 0 where
   pub tx : HasTx s.own id
-  pub not : SyncsNot s t (tx_call s.own tx.port tx.ring) (refusal_in Tx s.own tx.ring) fault
+  pub not : SyncsNot s t (tx_call s.own tx.port tx.ring) (refusal_in Tx s.own tx.port tx.ring) fault

@@ -1,6 +1,8 @@
 //! What a user does on its rings between its calls, as the lines of a script do it.
 ghost use Rattle.std.specs.Prelude.{◌≡◌, ◌≤◌, length};
-ghost use Rattle.nm_user.specs.Words.{has_room, place_seen, with_all_back, with_extra_link};
+ghost use Rattle.nm_types.specs.Limits.{most_frame_bytes};
+ghost use Rattle.nm_user.specs.Words.{has_room_for, is_whole_at, place_seen, with_all_back};
+ghost use Rattle.nm_user.specs.Words.{with_extra_link};
 ghost use Rattle.nm_user.specs.Words.{with_forwarded, with_frame, with_positions, with_slot_field};
 ghost use Rattle.nm_user.specs.Words.{with_slots_swapped};
 
@@ -54,22 +56,25 @@ impl<'f> Session<'f> {
         }
     }
 
-    /// Whether a frame can be put at the head of a port's transmit ring: its positions fit, and
-    /// its head is before its tail.
-    pub fn has_room(&self, port: PortId) -> bool
-        ensures { result ≡ has_room self.now.own port.0 }
+    /// Whether a frame of `len` bytes can be put at the head of a port's transmit ring: its positions
+    /// fit, and from its head to before its tail there are as many slots as the frame takes
+    /// (`nm_types::slots`).
+    pub fn has_room(&self, port: PortId, len: usize) -> bool
+        requires { len ≤ most_frame_bytes }
+        ensures { result ≡ has_room_for self.now.own port.0 len }
     {
         match &self.own {
-            Some(own) => own.has_room(port),
+            Some(own) => own.has_room(port, len),
             None => false,
         }
     }
 
-    /// Puts a frame at the head of a port's transmit ring, if it has room: writes the bytes over
-    /// the first ones of the buffer that the slot names, if the user may name it, sets the slot's
-    /// length, clears its marks of a former frame, and moves head and cur to the next position.
+    /// Puts a frame at the head of a port's transmit ring, if it has room for it, each part of 2,048
+    /// bytes in a slot: writes the bytes over the first ones of the buffer that the slot names, if the
+    /// user may name it, sets the slot's length, clears its marks of a former frame, marks it as going
+    /// on if a part follows, and moves head and cur to the next position.
     pub fn put_frame(&mut self, port: PortId, bytes: &[u8])
-        requires { length bytes.now ≤ 2048 }
+        requires { length bytes.now ≤ most_frame_bytes }
         ensures { self.new
             ≡ record self.old { own = with_frame port.0 bytes.now self.old.own } }
     {
@@ -79,12 +84,16 @@ impl<'f> Session<'f> {
     }
 
     /// Forwards up to `count` frames without a copy, from the receive ring of one port to the
-    /// transmit ring of another, which may be the same, while both have a slot at their heads: the
-    /// two slots change the buffers that they name and are marked as changed, the transmit slot
-    /// takes the length, and head and cur of both rings go on by one.
+    /// transmit ring of another, which may be the same, while a whole frame stands at the receive
+    /// ring's head and the transmit ring has as many slots from its head to before its tail; an end of
+    /// a pipe takes frames of one slot alone. The slots change the buffers that they name and are
+    /// marked as changed, the transmit slots take the lengths and say whether the frame goes on, and
+    /// head and cur of both rings go on past it.
     pub fn forward(&mut self, from: PortId, to: PortId, count: u32)
         ensures { self.new
-            ≡ record self.old { own = with_forwarded count from.0 to.0 self.old.own } }
+            ≡ record self.old {
+              own = with_forwarded (is_whole_at self.old.own to.0) count from.0 to.0 self.old.own;
+            } }
     {
         if let Some(own) = &mut self.own {
             own.forward(from, to, count);

@@ -4,8 +4,8 @@
 ghost use Rattle.nm_user.specs.Saving.{ReceivedAreRead};
 ghost use Rattle.nm_user.specs.PortReads.{PortsAreOwn, PortsStayOwn, ReadsStay, ReadsGrow};
 
-/// After a receive sync the frames in the last slots before the tail, as many as it gave, are in
-/// order those that its entry read.
+/// After a receive sync the frames in the slots from where the tail stood before it are in order those
+/// that its entry read.
 pub fn received_are_read()
     ensures { ReceivedAreRead }
 {}

@@ -80,14 +80,14 @@ impl<'f> Session<'f> {
     }
 
     /// Opens a port of this name with rings of `tx` and `rx` slots and `extra` buffers besides:
-    /// netmap(4) calls this NIOCREGIF. A ring has 2 to 1,024 slots, a monitor no transmit ring (`tx` is
+    /// netmap(4) calls this NIOCREGIF. A ring has 2 to 4,096 slots, a monitor no transmit ring (`tx` is
     /// 0), and there are up to 1,024 extra buffers. The port takes the smallest free buffers of the
     /// pool, one for each slot and each extra position. Each of the user's slots names the buffer in
     /// its place, with the length 0 and no flag; the extra buffers are linked in rising order.
     ///
     /// The first of these that holds is the error, and an entry: `BadSize`, a size is out of its range;
     /// `SwitchesFull`, the name's switch has no port and 4 switches are there; `PortsFull`, its switch
-    /// has 16 ports, or there are 32 pipe ends, or 32 monitors; `NameTaken`, a port of the name is open
+    /// has 254 ports, or there are 32 pipe ends, or 32 monitors; `NameTaken`, a port of the name is open
     /// or shut and not gone; `NoBuffers`, fewer are free than are wanted. `RecordFull`, without room for
     /// the entry and for those by which the port is closed, and `NoMemory` are no entries, and nothing
     /// has changed.

@@ -1,10 +1,12 @@
 //! A receive sync: the buffers of the pushed slots go back, and what was granted to the port is
 //! published in its ring.
 ghost use Rattle.std.specs.Prelude.{ℕ, true, ◌≡◌, ◌≤◌, ◌<◌, ◌^◌, [], length, take, fold};
+ghost use Rattle.std.specs.Prelude.{count_by};
 ghost use Rattle.std.specs.Prelude.{IsSome, IfSome, IfOk, IfErr, OnOk, OnErr, Some, None};
 ghost use Rattle.nm_user.specs.Words.{AllOf, AreOf, IsBufferOf, IsNew, IsPassIn, IsRead, MayIn};
 ghost use Rattle.nm_user.specs.Words.{RefusesIn, Rx, back_on, buffers_of, can_receive};
-ghost use Rattle.nm_user.specs.Words.{fixed_in, indices_of, is_pipe_name, knowing};
+ghost use Rattle.nm_user.specs.Words.{is_last};
+ghost use Rattle.nm_user.specs.Words.{fixed_in, frames_in, indices_of, is_pipe_name, knowing};
 ghost use Rattle.nm_user.specs.Words.{own_after_receive, own_with_arrival, part_in, place_with_id};
 ghost use Rattle.nm_user.specs.Words.{port_with_id, read_ask, refusal_at, ring_at, sync_fault_of};
 ghost use Rattle.nm_user.specs.Words.{vec_capacity};
@@ -29,7 +31,7 @@ use vale_line::Got;
 pub struct Received {
     /// The number of its entry: that of a sync, or at a pipe's end of a get.
     pub entry: u32,
-    /// How many frames came, each in a slot of its own.
+    /// How many frames came, each in one slot or in several, one behind the other.
     pub gave: u32,
     /// How many buffers went back: one for each slot that was pushed.
     pub returned: u32,
@@ -102,6 +104,22 @@ fn give_and_take<R: Wait>(
     }
 }
 
+/// How many received buffers are the last ones of their frames.
+fn last_count(gots: &[Got]) -> usize
+    ensures { result ≡ count_by is_last gots.now }
+{
+    gots.iter().filter(|got| got.rest == 0).count()
+}
+
+/// How many frames lie in received buffers: each ends in the last of its own.
+#[tactic(auto, using(crate::proofs::FramesCounted::counted))]
+fn frame_count(gots: &[Got]) -> u32
+    requires { length gots.now < 2 ^ 32 }
+    ensures { result ≡ length (frames_in gots.now) }
+{
+    last_count(gots) as u32
+}
+
 /// How many bytes of a received buffer are its frame's.
 fn frame_len(got: &Got) -> u16
     ensures few { result ≤ 2048 }
@@ -110,8 +128,8 @@ fn frame_len(got: &Got) -> u16
     got.buf.bytes().len().min(got.len as usize) as u16
 }
 
-/// Publishes a frame in the next slot of a port's receive ring. The port stands at a place in the
-/// order of the ports.
+/// Publishes a part of a frame in the next slot of a port's receive ring. The port stands at a place in
+/// the order of the ports.
 fn publish(own: &mut OwnSide, at: usize, port: PortId, got: Got)
     requires place { at ≡ place_with_id own.old.own port.0 }
     requires room { can_receive port.0 own.old.own ≡ true }
@@ -120,11 +138,11 @@ fn publish(own: &mut OwnSide, at: usize, port: PortId, got: Got)
     ensures region { (region : ℕ) → AllOf region own.old → IsBufferOf region got.buf
         → AllOf region own.new }
 {
-    let len = frame_len(&got);
-    own.receive_at(at, port, got.into_buf(), len);
+    let (len, rest) = (frame_len(&got), got.rest);
+    own.receive_at(at, port, got.into_buf(), len, rest);
 }
 
-/// Publishes frames in their order.
+/// Publishes parts of frames in their order.
 #[inline(never)]
 fn publish_all(own: &mut OwnSide, port: PortId, mut gots: Vec<Got>)
     requires come { CanCome port.0 own.old.own (arrivals_in gots.items) }
@@ -213,7 +231,7 @@ impl<'f> Session<'f> {
                 return Err(fault);
             }
         };
-        let (entry, gave) = (offers.entry(), got.len() as u32);
+        let (entry, gave) = (offers.entry(), frame_count(&got));
         let frames = Frames::Gots(&got);
         self.fabric
             .settle(rt, &mut self.pass, gate, self.user, offers, frames);
@@ -245,9 +263,11 @@ impl<'f> Session<'f> {
     /// Syncs a port's receive ring: netmap(4) calls this NIOCRXSYNC. First `head` and `cur` are
     /// checked, then each pushed slot, in order from the accepted head to before `head`. If no check
     /// refuses, the buffers that the pushed slots name go back to the port's line, `head` is the
-    /// accepted head, and the frames that are ready there are published from the tail on, each in a
-    /// slot with its buffer and its length: of a switch's port, a pipe's end or a monitor alike. What
-    /// the port's own monitor wants of them is granted, filled and completed before the call returns.
+    /// accepted head, and the frames that are ready there are published from the tail on, each in as many
+    /// slots as it has parts, with their buffers and lengths: of a switch's port, a pipe's end or a
+    /// monitor alike. A slot behind which `r` of its frame's follow has the flags
+    /// `SlotFlags::MORE_FRAGMENTS` + 256 * `r`, and the last one none. What the port's own monitor wants
+    /// of them is granted, filled and completed before the call returns.
     ///
     /// The gate is passed as frames go to the monitor: after each grant that gave a lease, after its
     /// filling and after its completion.

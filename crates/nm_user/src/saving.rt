@@ -1,14 +1,24 @@
-//! The frames that a receive sync brought, read from the ring.
-ghost use Rattle.std.specs.Prelude.{◌≡◌, ◌<◌, ◌^◌, length, map, take, IfOk, IfSome};
-ghost use Rattle.std.specs.Prelude.{option_and_then};
-ghost use Rattle.nm_user.specs.Words.{Rx, option_copied, ring_at};
+//! The frames that a receive sync brought, read from the ring and joined of their parts.
+ghost use Rattle.std.specs.Prelude.{◌≡◌, ◌<◌, ◌^◌, length, take, true, IfOk, IfSome, OnOk};
+ghost use Rattle.std.specs.Prelude.{ℕ, List, option_and_then};
+ghost use Rattle.nm_user.specs.Words.{Rx, goes_on, option_copied, ring_at, with_gathered};
 ghost use Rattle.nm_user.specs.Saving.{before_tail, slot_before_tail, frame_of_slot};
-ghost use Rattle.nm_user.specs.Saving.{frame_before_tail, frames_before_tail, bytes_or_none};
-ghost use Rattle.nm_user.specs.Saving.{bytes_of_frame};
+ghost use Rattle.nm_user.specs.Saving.{frame_before_tail, frames_from, count_to_tail};
+ghost use Rattle.nm_user.specs.Saving.{readable_bytes, slot_or_blank_at};
 
 use crate::session::Session;
+use nm_port::gather::is_not_learned;
+use nm_port::goes_on;
 use nm_ring::Ring;
 use nm_types::{Batch, NoMemory, PortId, Side, Slot};
+
+/// A slot that names no buffer.
+const BLANK: Slot = Slot {
+    buf_idx: 0,
+    len: 0,
+    flags: 0,
+    ptr: 0,
+};
 
 /// The position so many steps before a ring's tail, going round.
 fn before_tail(ring: &Ring, back: u32) -> u32
@@ -18,12 +28,41 @@ fn before_tail(ring: &Ring, back: u32) -> u32
     (tail + (size - back.min(size))) % size
 }
 
+/// How many slots there are from a position on to before a ring's tail, going round; 0 if it is no
+/// position of the ring.
+fn count_to_tail(ring: &Ring, at: u32) -> u32
+    ensures { result ≡ count_to_tail at ring.now }
+{
+    let (size, tail) = (ring.size(), ring.tail());
+    if at < size {
+        (tail + size - at) % size
+    } else {
+        0
+    }
+}
+
 /// The first of these bytes, as many as a slot's length says.
 fn frame_in<'a>(bytes: &'a [u8], slot: &Slot) -> &'a [u8]
     ensures bytes { result.now ≡ take slot.now.len bytes.now }
     ensures size { length result.now < 2 ^ 16 }
 {
     &bytes[..bytes.len().min(slot.len as usize)]
+}
+
+/// Adds the bytes of a slot: to the last frame, if that goes on, or as a frame that begins there.
+#[tactic(auto, using(nm_port::proofs::Gathering::gathering))]
+fn add_bytes(bytes: &[u8], slot: &Slot, begun: bool, frames: &mut Batch) -> Result<(), NoMemory>
+    requires { begun ≡ true → 0 < length frames.old }
+    ensures frames { (bytes_of : ℕ → List ℕ)
+        → bytes.now ≡ take slot.now.len (bytes_of slot.now.buf_idx)
+        → OnOk result (frames.new ≡ with_gathered bytes_of frames.old begun slot.now) }
+    ensures some { OnOk result (0 < length frames.new) }
+{
+    if begun {
+        frames.extend_last(bytes)
+    } else {
+        frames.push(bytes, is_not_learned(slot))
+    }
 }
 
 impl<'f> Session<'f> {
@@ -38,7 +77,7 @@ impl<'f> Session<'f> {
         }
     }
 
-    /// The frame of a slot, if the user may name the buffer that the slot names.
+    /// The part of a frame in a slot, if the user may name the buffer that the slot names.
     fn frame_of_slot(&self, slot: &Slot) -> Option<&[u8]>
         ensures frame { option_copied result ≡ frame_of_slot self.now.own slot.now }
         ensures size { IfSome result (λ bytes. length bytes.now < 2 ^ 16) }
@@ -49,9 +88,9 @@ impl<'f> Session<'f> {
         }
     }
 
-    /// The frame in the slot so many steps before the tail of a port's receive ring: 1 is the
+    /// The part of a frame in the slot so many steps before the tail of a port's receive ring: 1 is the
     /// last that came. None if that slot is not the user's, or names a buffer that the user may
-    /// not name. A frame has no more bytes than a slot's length can say.
+    /// not name. A part has no more bytes than a slot's length can say.
     pub fn frame_before_tail(&self, port: PortId, back: u32) -> Option<&[u8]>
         ensures frame { option_copied result ≡ frame_before_tail self.now.own port.0 back }
         ensures size { IfSome result (λ bytes. length bytes.now < 2 ^ 16) }
@@ -62,25 +101,63 @@ impl<'f> Session<'f> {
         }
     }
 
-    /// The frame there, or no bytes.
-    fn bytes_before_tail(&self, port: PortId, back: u32) -> &[u8]
-        ensures { result.now ≡ bytes_or_none (frame_before_tail self.now.own port.0 back) }
+    /// The user's slot at a position of a port's receive ring, a blank one if there is none.
+    fn slot_or_blank(&self, port: PortId, at: u32) -> Slot
+        ensures { result ≡ slot_or_blank_at self.now.own port.0 at }
     {
-        match self.frame_before_tail(port, back) {
-            Some(bytes) => bytes,
+        match self.slot(port, Side::Rx, at) {
+            Some(slot) => *slot,
+            None => BLANK,
+        }
+    }
+
+    /// The first bytes of the buffer that a slot names, as many as its length says; none if the user
+    /// may not name it.
+    fn part_of_slot(&self, slot: &Slot) -> &[u8]
+        ensures { result.now ≡ take slot.now.len (readable_bytes self.now.own slot.now.buf_idx) }
+    {
+        match self.bytes(slot.buf_idx) {
+            Some(bytes) => frame_in(bytes, slot),
             None => &[],
         }
     }
 
-    /// A copy of the frames in so many slots before the tail of a port's receive ring, in the order
-    /// of the ring: after a receive sync that gave as many, those that it brought.
-    pub fn frames_before_tail(&self, port: PortId, count: u32) -> Result<Batch, NoMemory>
-        ensures { IfOk result (λ frames. map bytes_of_frame frames
-            ≡ frames_before_tail self.now.own port.0 count) }
+    /// Adds the part in a slot: to the last frame, if that goes on, or as a frame that begins there.
+    /// Returns whether the frame goes on in the next slot.
+    fn add_part(
+        &self,
+        port: PortId,
+        at: u32,
+        begun: bool,
+        frames: &mut Batch,
+    ) -> Result<bool, NoMemory>
+        requires { begun ≡ true → 0 < length frames.old }
+        ensures frames { OnOk result (frames.new ≡ with_gathered (readable_bytes self.now.own)
+            frames.old begun (slot_or_blank_at self.now.own port.0 at)) }
+        ensures begun { IfOk result (λ on. on
+            ≡ goes_on (slot_or_blank_at self.now.own port.0 at)) }
+        ensures some { OnOk result (0 < length frames.new) }
+    {
+        let slot = self.slot_or_blank(port, at);
+        add_bytes(self.part_of_slot(&slot), &slot, begun, frames)?;
+        Ok(goes_on(&slot))
+    }
+
+    /// A copy of the frames in the slots of a port's receive ring from a position on to before the
+    /// tail, in the order of the ring, each joined of its parts: from where the tail stood before a
+    /// receive sync on, those that it brought. If the last one does not end before the tail, it has
+    /// the bytes that are there.
+    pub fn frames_from(&self, port: PortId, at: u32) -> Result<Batch, NoMemory>
+        ensures { IfOk result (λ frames. frames ≡ frames_from self.now.own port.0 at) }
     {
         let mut frames = Batch::new(self.alloc);
+        let (size, count) = match self.ring(port, Side::Rx) {
+            Some(ring) => (ring.size(), count_to_tail(ring, at)),
+            None => return Ok(frames),
+        };
+        let mut begun = false;
         for k in 0..count {
-            frames.push(self.bytes_before_tail(port, count - k), false)?;
+            begun = self.add_part(port, (at + k) % size, begun, &mut frames)?;
         }
         Ok(frames)
     }

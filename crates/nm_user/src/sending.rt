@@ -16,22 +16,24 @@ use nm_types::{PortId, Side, StepFault, SyncFault};
 use std::sync::Wait;
 use vale_fabric::{Frames, OwnGate, SharedGate};
 
-/// What a transmit sync told, in frames. The last three count a frame once for each port that wants
-/// it: the ports of the switch to which it goes, and the sender's monitor. At a pipe's end that is the
-/// monitor alone, as the other end has what it took at once.
+/// What a transmit sync told: how many slots went, and of their frames what became of them. The last
+/// three count a frame once for each port that wants it: the ports of the switch to which it goes, and
+/// the sender's monitor. At a pipe's end that is the monitor alone, as the other end has what it took at
+/// once.
 #[derive(Clone, Copy, Debug, PartialEq, Eq)]
 pub struct Sent {
     /// The number of its entry: that of a send, or at a pipe's end of a put.
     pub entry: u32,
-    /// The frames that went: at a port of a switch all that were pushed, at a pipe's end the first
-    /// ones, as many as the other end took. Those that it did not take stay pushed.
+    /// The slots whose frames went: at a port of a switch all that were pushed, at a pipe's end, where
+    /// each slot is a frame, the first ones, as many as the other end took. Those that it did not take
+    /// stay pushed.
     pub pushed: u32,
-    /// Those of them with fewer than 14 bytes, which go to no port of the switch. 0 at a pipe's end.
+    /// The frames with fewer than 14 bytes, which go to no port of the switch. 0 at a pipe's end.
     pub short: u32,
-    /// Those of them, not short, that went to no port of the switch: the destination is behind the
+    /// The frames, not short, that went to no port of the switch: the destination is behind the
     /// sender, or no other port is open. 0 at a pipe's end.
     pub lone: u32,
-    /// Those for which there was room, so that they were copied there.
+    /// The frames for which there was room, so that they were copied there.
     pub given: u32,
     /// Those for which there was none.
     pub full: u32,
@@ -62,7 +64,7 @@ impl<'f> Session<'f> {
             None => unreachable!(),
         };
         let batch = own.frames(self.alloc, port)?;
-        let pushed = batch.len() as u32;
+        let pushed = own.pushed_count(port);
         let offers = match self.fabric.send(rt, &mut self.pass, port, &batch) {
             Ok(offers) => offers,
             Err(fault) => return Err(fault),
@@ -145,7 +147,9 @@ impl<'f> Session<'f> {
     /// refuses, `head` is the accepted head, and the frames go on in their order:
     ///
     /// At a port that is no pipe's end all frames that were pushed are sent, with their bytes, and the
-    /// tail goes on by as many slots. A frame is not kept for a port that has no space for it.
+    /// tail goes on by as many slots. A frame is a run of slots, up to the first that is not marked as
+    /// going on (`SlotFlags::MORE_FRAGMENTS`), and has the bytes of them all. It is not kept for a port
+    /// that has no space for it.
     ///
     /// At an end of a pipe the frames that are still pushed from earlier syncs are offered to the
     /// other end, and then those pushed now. It takes the first ones, as many as it has space for,
@@ -161,10 +165,10 @@ impl<'f> Session<'f> {
     /// of its range. `Indirect`: a slot asks for bytes that stand elsewhere. `IndexOut`: it names no
     /// buffer of the pool. `NotHeld`: it names none of the session's named buffers. `Doubled`: an
     /// earlier one names the same. `Unannounced`: it names another buffer than the one in its place,
-    /// and is not marked as changed. `LongLen`: its length passes a buffer's. `Fragment`: its
-    /// frame goes on in the next slot. The refusal is recorded and the ring is reset: `head` and
-    /// `cur` are the accepted head again, each of the user's slots names the buffer in its place, and
-    /// no frame went.
+    /// and is not marked as changed. `LongLen`: its length passes a buffer's. `Fragment`: it is marked
+    /// as going on, and is the last one pushed, or the last one that a frame may have, or at an end of
+    /// a pipe. The refusal is recorded and the ring is reset: `head` and `cur` are the accepted head
+    /// again, each of the user's slots names the buffer in its place, and no frame went.
     ///
     /// `PeerGone` is no refusal of a check: the other end of the pipe is not open. This is recorded
     /// too. `head` is the accepted head then, and the frames stay pushed.

@@ -1,4 +1,5 @@
 ghost use Rattle.std.specs.Prelude.{ℕ, ◌≡◌, ◌≢◌, ◌≤◌, ◌++◌, ◌∷◌, [], false, Some, OnOk};
+ghost use Rattle.nm_types.specs.Limits.{most_extra};
 ghost use Rattle.nm_region.specs.Buffers.{name_of, names_of, opened_buffers, region_names};
 ghost use Rattle.nm_hold.specs.Holds.{empty_hold, buffer_at};
 ghost use Rattle.nm_hold.specs.Names.{name_at};
@@ -154,7 +155,7 @@ fn named_bytes_are_written(rt: HostRuntime) {
 /// Opens a port with two slots in each ring and so many extra positions.
 fn open(hold: &mut Hold, port: u32, extra: u32) -> Result<(), NoMemory>
     requires new { has_port hold.old.ports port ≡ false }
-    requires few { extra ≤ 1024 }
+    requires few { extra ≤ most_extra }
     ensures cells { hold.new.cells ≡ hold.old.cells }
     ensures ports { OnOk result (hold.new.ports ≡ hold.old.ports
         ++ record { port = record { 0 = port }; sizes = record { tx = 2; rx = 2; extra = extra } } ∷ []) }

@@ -15,6 +15,9 @@ pub(crate) const PORT: PortId = PortId(2);
 /// A broadcast from 02:00:00:00:00:0a.
 pub(crate) const FRAME: [u8; 14] = [255, 255, 255, 255, 255, 255, 2, 0, 0, 0, 0, 10, 136, 181];
 
+/// The bytes of a frame of four parts, one more than those of three.
+const LONG: [u8; 6145] = [7; 6145];
+
 /// Writes to slot 0 of a push of one frame, and what refuses the sync then. The transmit slots hold
 /// the buffers 2 to 5 of a pool of 64, the last one is the kernel side's, and 6 is an extra buffer.
 const WRITES: [(SlotWrite, Option<SyncFault>); 8] = [
@@ -106,12 +109,12 @@ fn refusal(rt: &impl Abort, own: &mut OwnSide, side: Side) -> Option<SyncFault>
     own.check(PORT, side).err()
 }
 
-/// The bytes of the only frame that is pushed are those of the broadcast.
-fn is_pushed(rt: &impl Abort, own: &mut OwnSide, alloc: Global) -> bool {
+/// Whether one frame alone is pushed, and has these bytes.
+fn is_pushed(rt: &impl Abort, own: &mut OwnSide, alloc: Global, bytes: &[u8]) -> bool {
     assert!(rt; own.ring(PORT, Side::Tx).is_some());
     match own.check(PORT, Side::Tx) {
         Ok(()) => match own.frames(alloc, PORT) {
-            Ok(batch) => batch.len() == 1 && batch.frame(0) == FRAME.as_slice(),
+            Ok(batch) => batch.len() == 1 && batch.frame(0) == bytes,
             Err(_) => false,
         },
         Err(_) => false,
@@ -135,7 +138,7 @@ fn move_each(rt: &impl Abort, own: &mut OwnSide) {
         own.put_positions(PORT, Side::Tx, head, cur);
         assert!(rt; refusal(rt, own, Side::Tx) == wanted, "{head} {cur}");
         own.reset(PORT, Side::Tx);
-        assert!(rt; own.has_room(PORT), "{head} {cur}");
+        assert!(rt; own.has_room(PORT, 14), "{head} {cur}");
     }
     let out = SyncFault::HeadOut {
         head: 1,
@@ -176,12 +179,24 @@ fn swap(rt: &impl Abort, own: &mut OwnSide) {
 fn fill(rt: &impl Abort, own: &mut OwnSide, alloc: Global) {
     own.forward(PORT, PORT, 9);
     own.put_frame(PORT, &FRAME);
-    assert!(rt; is_pushed(rt, own, alloc));
+    assert!(rt; is_pushed(rt, own, alloc, &FRAME));
     for _ in 0..3 {
         own.put_frame(PORT, &FRAME);
     }
-    assert!(rt; !own.has_room(PORT));
+    assert!(rt; !own.has_room(PORT, 14));
     assert!(rt; slot_at(own, 2) == slot(4, 14, 0) && slot_at(own, 3).is_none());
+}
+
+/// A frame of three parts takes the three slots that a ring of four has, and one of four does not fit.
+fn put_long(rt: &impl Abort, own: &mut OwnSide, alloc: Global) {
+    assert!(rt; own.has_room(PORT, 6144) && !own.has_room(PORT, 6145));
+    own.put_frame(PORT, &LONG);
+    assert!(rt; slot_at(own, 0) == slot(2, 0, 0));
+    own.put_frame(PORT, &LONG[..5000]);
+    assert!(rt; slot_at(own, 0) == slot(2, 2048, 32) && slot_at(own, 1) == slot(3, 2048, 32));
+    assert!(rt; slot_at(own, 2) == slot(4, 904, 0) && !own.has_room(PORT, 0));
+    assert!(rt; is_pushed(rt, own, alloc, &LONG[..5000]));
+    own.reset(PORT, Side::Tx);
 }
 
 /// Sends what is pushed, which no check refuses.
@@ -196,7 +211,7 @@ fn send(rt: &impl Abort, own: &mut OwnSide) {
 /// Three frames are sent, and a fourth in a slot that changed its buffer with another one.
 fn exchange(rt: &impl Abort, own: &mut OwnSide) {
     send(rt, own);
-    assert!(rt; own.has_room(PORT));
+    assert!(rt; own.has_room(PORT, 0));
     assert!(rt; slot_at(own, 3) == slot(5, 0, 0) && slot_at(own, 2).is_none());
     let [here, there] = [3, 0].map(|at| SlotPlace {
         port: PORT,
@@ -382,7 +397,7 @@ fn play(
     requires tx { indices_of tx.items ≡ 2 ∷ 3 ∷ 4 ∷ 5 ∷ [] }
     requires extra { indices_of extra.items ≡ 6 ∷ [] }
 {
-    assert!(rt; own.prepare(alloc, name, 2, 1024, 1024).is_ok() && own.is_empty());
+    assert!(rt; own.prepare(alloc, name, 2, 4096, 1024).is_ok() && own.is_empty());
     assert!(rt; tx.len() == 4 && extra.len() == 1);
     match own.prepare(alloc, name, 4, 4, 1) {
         Ok(new) => own.add(new, PORT, tx, extra),
@@ -391,6 +406,7 @@ fn play(
     assert!(rt; slot_at(own, 0) == slot(2, 0, 0) && slot_at(own, 2) == slot(4, 0, 0));
     write_each(rt, own);
     move_each(rt, own);
+    put_long(rt, own, alloc);
     swap(rt, own);
     fill(rt, own, alloc);
     exchange(rt, own);

@@ -80,7 +80,7 @@ fn refusal(hold: &Hold, ring: &mut SlotRing, marks: &mut Marks, head: u32) -> Op
 {
     ring.put_head(head);
     ring.put_cur(head);
-    check_ring(hold, PORT, ring, marks).err()
+    check_ring(hold, PORT, ring, false, marks).err()
 }
 
 /// Checks each change of slot 0, and then two slots that name one buffer.

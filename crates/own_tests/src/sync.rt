@@ -32,14 +32,15 @@ fn is_slot(own: &OwnSide, side: Side, at: u32, buf_idx: u32, len: u16, flags: u1
     }
 }
 
-/// Publishes the first bytes of a buffer, all of whose bytes are 7 behind the broadcast.
-fn receive(rt: &impl Abort, own: &mut OwnSide, buf: Buf, len: u16) {
+/// Publishes the first bytes of a buffer, all of whose bytes are 7 behind the broadcast, as a part
+/// behind which so many follow.
+fn receive(rt: &impl Abort, own: &mut OwnSide, buf: Buf, len: u16, rest: u8) {
     let mut buf = buf;
     buf.write(&[7; 64]);
     buf.write(&FRAME);
     assert!(rt; len <= 14 && own.is_new(buf.index()));
     assert!(rt; own.can_receive(PORT));
-    own.receive(PORT, buf, len);
+    own.receive(PORT, buf, len, rest);
 }
 
 /// Lends up to three buffers that the receive ring gives back.
@@ -95,9 +96,9 @@ fn take_last(rt: &impl Abort, back: &mut Vec<Buf>, idx: u32) -> Buf
 /// Three frames fill a ring of four slots. Of each buffer only the frame is left.
 fn fill(rt: &impl Abort, own: &mut OwnSide, six: Buf, seven: Buf, eight: Buf) {
     assert!(rt; six.index() == 6 && seven.index() == 7 && eight.index() == 8);
-    receive(rt, own, six, 14);
-    receive(rt, own, seven, 7);
-    receive(rt, own, eight, 0);
+    receive(rt, own, six, 14, 0);
+    receive(rt, own, seven, 7, 0);
+    receive(rt, own, eight, 0, 0);
     assert!(rt; !own.can_receive(PORT) && !own.is_new(6));
     assert!(rt; is_slot(own, Side::Rx, 0, 6, 14, 0) && is_slot(own, Side::Rx, 1, 7, 7, 0));
     assert!(rt; is_slot(own, Side::Rx, 2, 8, 0, 0) && own.slot(PORT, Side::Rx, 3).is_none());
@@ -117,8 +118,8 @@ fn cross(rt: &impl Abort, own: OwnSide, alloc: Global, back: &mut Vec<Buf>) -> O
     assert!(rt; back.len() == 2 && own.is_new(6) && own.is_new(7));
     assert!(rt; own.slot(PORT, Side::Rx, 0).is_none() && own.slot(PORT, Side::Rx, 1).is_none());
     assert!(rt; is_slot(&own, Side::Rx, 2, 8, 0, 0));
-    receive(rt, &mut own, take_last(rt, back, 6), 1);
-    receive(rt, &mut own, take_last(rt, back, 7), 2);
+    receive(rt, &mut own, take_last(rt, back, 6), 1, 0);
+    receive(rt, &mut own, take_last(rt, back, 7), 2, 0);
     assert!(rt; is_slot(&own, Side::Rx, 3, 6, 1, 0) && is_slot(&own, Side::Rx, 0, 7, 2, 0));
     own
 }
@@ -241,6 +242,39 @@ fn open(rt: &impl Abort, own: &mut OwnSide, alloc: Global, name: Name, tx: Vec<B
         Err(_fault) => panic!(rt; "out of memory"),
     }
     assert!(rt; own.slot(PORT, Side::Rx, 0).is_none());
+}
+
+/// A frame of two parts comes, and goes on to the transmit ring in as many slots, which say so.
+fn forward_long(rt: &impl Abort, own: &mut OwnSide, alloc: Global, six: Buf, seven: Buf) {
+    assert!(rt; six.index() == 6 && seven.index() == 7);
+    receive(rt, own, six, 14, 1);
+    own.forward(PORT, PORT, 9);
+    assert!(rt; is_slot(own, Side::Rx, 0, 6, 14, 288) && is_slot(own, Side::Tx, 0, 2, 0, 0));
+    receive(rt, own, seven, 7, 0);
+    own.forward(PORT, PORT, 9);
+    assert!(rt; is_slot(own, Side::Rx, 0, 2, 14, 289) && is_slot(own, Side::Rx, 1, 3, 7, 1));
+    assert!(rt; is_slot(own, Side::Tx, 0, 6, 14, 33) && is_slot(own, Side::Tx, 1, 7, 7, 1));
+    check_push(rt, own, Side::Tx);
+    match own.frames(alloc, PORT) {
+        Ok(batch) => assert!(rt; batch.len() == 1 && batch.frame(0).len() == 21),
+        Err(_) => panic!(rt; "out of memory"),
+    }
+}
+
+/// The buffers are not given back to the region: the test ends by the panic that it expects.
+#[test]
+#[should_panic(expected = "the buffers stay out of the region")]
+fn frames_go_on(rt: HostRuntime) {
+    let alloc = rt.alloc();
+    let (_region, mut all, tx, name, mut own) = start(&rt, alloc, 2);
+    let (six, seven) = (all.remove(0), all.remove(0));
+    open(&rt, &mut own, alloc, name, tx);
+    forward_long(&rt, &mut own, alloc, six, seven);
+    assert!(rt; own.has_port(PORT));
+    let (_back, _chain) = own.close_port(PORT);
+    assert!(rt; own.is_empty());
+    own.close();
+    panic!(rt; "the buffers stay out of the region");
 }
 
 /// The buffers are not given back to the region: the test ends by the panic that it expects.

@@ -98,6 +98,120 @@ fn lines_are_run(rt: HostRuntime) -> Result<(), Fail> {
     Ok(())
 }
 
+/// How often a line stands in a text.
+fn count_in(text: &[u8], line: &[u8]) -> usize {
+    if line.is_empty() {
+        0
+    } else {
+        text.windows(line.len())
+            .filter(|part| *part == line)
+            .count()
+    }
+}
+
+/// The lines that open ports, with those before and behind them.
+fn opening_script(alloc: Global, opening: &Opening) -> Result<Vec<u8>, AllocError> {
+    let mut script = Vec::from_slice(alloc, opening.before)?;
+    for port in 0..opening.ports {
+        script.extend_from_slice(b"open a vale0:p")?;
+        script.push(b'0' + port / 100)?;
+        script.push(b'0' + port / 10 % 10)?;
+        script.push(b'0' + port % 10)?;
+        script.extend_from_slice(opening.sizes)?;
+    }
+    script.extend_from_slice(opening.behind)?;
+    Ok(script)
+}
+
+/// A switch takes no more ports than the limits say, and a pool gives no more buffers.
+#[test]
+fn many_ports_are_opened(rt: HostRuntime) -> Result<(), Fail> {
+    for opening in OPENINGS {
+        let script = opening_script(rt.alloc(), opening)?;
+        let left = ran(&rt, &["run", "s"], &script, EMPTY, 99, 99_999)?;
+        assert_eq!(rt; left.line.bytes(), EMPTY);
+        assert!(rt; stand_in(left.out.bytes(), opening.lines));
+        assert_eq!(rt; count_in(left.out.bytes(), GIVEN), opening.given);
+    }
+    Ok(())
+}
+
+/// The entry that sends the frame of the first 64 slots, with all their bytes, and the one behind it.
+fn longest_sent(alloc: Global) -> Result<Vec<u8>, AllocError> {
+    let mut line = Vec::from_slice(alloc, LONGEST_BEFORE)?;
+    for _ in 0..64 {
+        line.extend_from_slice(SLOT_BYTES)?;
+    }
+    line.push(b',')?;
+    line.extend_from_slice(SLOT_BYTES)?;
+    line.extend_from_slice(LONGEST_BEHIND)?;
+    Ok(line)
+}
+
+/// Of 65 slots pushed so many go on: the frame of 64 slots is sent, and the longer one refused.
+#[test]
+fn a_frame_takes_so_many_slots(rt: HostRuntime) -> Result<(), Fail> {
+    let sent = longest_sent(rt.alloc())?;
+    for (marked, line) in [(63_u8, sent.as_slice()), (64, LONGER_REFUSED)] {
+        let mut script = Vec::new(rt.alloc());
+        script.extend_from_slice(SLOTS_PUT)?;
+        for slot in 0..marked {
+            script.extend_from_slice(b"poke a vale0:a tx ")?;
+            script.push(b'0' + slot / 10)?;
+            script.push(b'0' + slot % 10)?;
+            script.extend_from_slice(b" flags 32\n")?;
+        }
+        script.extend_from_slice(b"tx a vale0:a\n")?;
+        let left = ran(&rt, &["run", "s"], &script, EMPTY, 99, 99_999)?;
+        assert_eq!(rt; left.line.bytes(), EMPTY);
+        assert!(rt; stand_in(left.out.bytes(), line));
+    }
+    Ok(())
+}
+
+/// A capture of broadcasts of these lengths.
+fn capture_of(alloc: Global, lens: &[u32]) -> Result<Vec<u8>, AllocError> {
+    let mut capture = Vec::from_slice(alloc, PLAYED_HEADER)?;
+    for len in lens {
+        capture.extend_from_slice(&[0; 8])?;
+        for _ in 0..2 {
+            capture.extend_from_slice(&len.to_be_bytes())?;
+        }
+        let end = capture.len().saturating_add(*len as usize);
+        capture.extend_from_slice(BROADCAST)?;
+        capture.resize(end, 0x5a)?;
+    }
+    Ok(capture)
+}
+
+/// These lines stand in what each script writes that plays long records.
+#[test]
+fn long_records_are_run(rt: HostRuntime) -> Result<(), Fail> {
+    for (lens, script, lines) in LONG_RECORDS {
+        let capture = capture_of(rt.alloc(), lens)?;
+        let left = ran(&rt, &["run", "s"], script, &capture, 99_999, 99_999)?;
+        assert_eq!(rt; left.line.bytes(), EMPTY);
+        assert!(rt; stand_in(left.out.bytes(), lines));
+    }
+    Ok(())
+}
+
+/// A record of 5,000 bytes is saved whole. A pipe's end passes it over.
+#[test]
+fn long_records_are_played_and_saved(rt: HostRuntime) -> Result<(), Fail> {
+    let capture = capture_of(rt.alloc(), &[5_000])?;
+    let left = ran(&rt, &["run", "s"], CAPTURE, &capture, 99, 99_999)?;
+    assert_eq!(rt; left.line.bytes(), EMPTY);
+    let saved = left.shelf.file("out.pcap").ok_or("saved")?;
+    assert!(rt; saved.len() == 5_040 && capture.len() == 5_040);
+    assert_eq!(rt; &saved[24..40], LONG_SAVED);
+    assert!(rt; saved[40..] == capture[40..]);
+    let left = ran(&rt, &["run", "s"], PIPE_CAPTURE, &capture, 99, 99_999)?;
+    assert_eq!(rt; left.line.bytes(), EMPTY);
+    assert_eq!(rt; left.shelf.file("out.pcap").ok_or("saved")?.len(), 24);
+    Ok(())
+}
+
 #[test]
 fn captures_are_played_and_saved(rt: HostRuntime) -> Result<(), Fail> {
     for (script, capture, saved) in SAVED_CAPTURES {

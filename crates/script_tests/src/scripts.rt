@@ -121,7 +121,7 @@ const BAD_LINES: [(&[u8], LineCause); 40] = [
     (b"put a vale0:p 1 x x 2049 11", Number),
     (b"put a vale0:p 1 x x 60 1", Number),
     (b"hex a vale0:p abc", Number),
-    (b"play a vale0:p f 1024", Number),
+    (b"play a vale0:p f 4096", Number),
     (b"poke a vale0:p tx 0 len 65536", Number),
     (b"poke a vale0:p tx 0 ptr 18446744073709551616", Number),
     (b"user abcdefghijklmnopq", Name),
@@ -203,7 +203,7 @@ const EACH_CAUSE: [(&[u8], LineCause); 105] = [
     (b"close a", Count),
     (b"par a", Count),
     (b"end a", Count),
-    (b"pool 65537", Number),
+    (b"pool 262145", Number),
     (b"open a vale0:q 4 x", Number),
     (
         b"put a vale0:p -1 ff:ff:ff:ff:ff:ff 02:00:00:00:00:0a 60 11",

@@ -288,7 +288,7 @@ fn pipes_monitors_and_counters_are_written(rt: HostRuntime) -> Result<(), Fail> 
 // a transcript with a line of each kind, each refusal of an opening, each fault and each answer;
 // numbers that could be exchanged differ
 const EACH_KIND: &[u8] =
-    b"vale 2 pool 65536\n1 enter 18446744073709551615\n2 1 open vale0:a 4 5 0 = ok\n3 1 open pipe0{ 6 7 4294967295 = badsize\n4 1 open mon0 0 4 0 = switchesfull\n5 1 open vale0:a 4 4 0 = portsfull\n6 1 open vale0:a 4 4 0 = nametaken\n7 1 open vale0:a 4 4 0 = nobuffers 8 5\n8 1 send 2 ff0a,~.,.,~00 = short 3 lone 1 to 4*1,5*2\n9 1 send 2 - = short 0 lone 0 to -\n10 1 grant 8 4 = given 1 full 2 gone 3\n11 1 done 10\n12 2 sync 4 12-13 = gave 1 to 6*2\n13 2 sync 4 - = gave 0 to -\n14 1 reset 2 rx headout 1 3 4\n15 1 reset 2 tx curout 1 2 3\n16 1 reset 2 tx indirect 5\n17 1 reset 2 tx indexout 1 66\n18 1 reset 2 tx notheld 3 6\n19 1 reset 2 tx doubled 1 2\n20 1 reset 4 rx unannounced 5 10 14\n21 1 reset 2 tx longlen 3 65535\n22 1 reset 2 tx fragment 6\n23 1 shut 2\n24 1 finish 2 3-5 found 6 astray 7 = unread 8\n25 1 put 3 2 = took 4:ff0a,5:. to 6*1\n26 1 put 3 1 = took - to -\n27 1 put 3 1 = peergone\n28 2 get 4 3 = gave 1 to 6*5\n29 3 watch 6 vale0:a t = ok 4\n30 3 watch 6 vale0:a r = notarget\n31 3 watch 6 vale0:a tr = watched 7\n32 2 stat 4 = sent 18446744073709551615 short 1 lone 3 given 5 full 6 read 7\n33 1 leave\nend 33 free 4294967295\n";
+    b"vale 2 pool 262144\n1 enter 18446744073709551615\n2 1 open vale0:a 4 5 0 = ok\n3 1 open pipe0{ 6 7 4294967295 = badsize\n4 1 open mon0 0 4 0 = switchesfull\n5 1 open vale0:a 4 4 0 = portsfull\n6 1 open vale0:a 4 4 0 = nametaken\n7 1 open vale0:a 4 4 0 = nobuffers 8 5\n8 1 send 2 ff0a,~.,.,~00 = short 3 lone 1 to 4*1,5*2\n9 1 send 2 - = short 0 lone 0 to -\n10 1 grant 8 4 = given 1 full 2 gone 3\n11 1 done 10\n12 2 sync 4 12-13 = gave 1 to 6*2\n13 2 sync 4 - = gave 0 to -\n14 1 reset 2 rx headout 1 3 4\n15 1 reset 2 tx curout 1 2 3\n16 1 reset 2 tx indirect 5\n17 1 reset 2 tx indexout 1 66\n18 1 reset 2 tx notheld 3 6\n19 1 reset 2 tx doubled 1 2\n20 1 reset 4 rx unannounced 5 10 14\n21 1 reset 2 tx longlen 3 65535\n22 1 reset 2 tx fragment 6\n23 1 shut 2\n24 1 finish 2 3-5 found 6 astray 7 = unread 8\n25 1 put 3 2 = took 4:ff0a,5:. to 6*1\n26 1 put 3 1 = took - to -\n27 1 put 3 1 = peergone\n28 2 get 4 3 = gave 1 to 6*5\n29 3 watch 6 vale0:a t = ok 4\n30 3 watch 6 vale0:a r = notarget\n31 3 watch 6 vale0:a tr = watched 7\n32 2 stat 4 = sent 18446744073709551615 short 1 lone 3 given 5 full 6 read 7\n33 1 leave\nend 33 free 4294967295\n";
 
 /// The numbers of the reset of a ring: its port, and those of the fault.
 fn reset(port: u64, fault: &SyncFault) -> [u64; 4] {
@@ -409,7 +409,7 @@ fn each_kind_of_entry_is_read_back(rt: HostRuntime) -> Result<(), Fail> {
         entries,
         free,
     } = read(rt.alloc(), text).ok().ok_or("read")?;
-    assert_eq!(rt; (version, pool, free), (2, 65_536, u32::MAX));
+    assert_eq!(rt; (version, pool, free), (2, 262_144, u32::MAX));
     assert!(rt; entries.len() == 33);
     for (i, (ask, reply)) in NUMBERS.iter().enumerate() {
         let entry = entries.get(i).ok_or("entry")?;
@@ -417,7 +417,7 @@ fn each_kind_of_entry_is_read_back(rt: HostRuntime) -> Result<(), Fail> {
         assert_eq!(rt; answered(&entry.reply), *reply);
     }
     let mut out = MemorySink::new(rt.alloc(), Vec::new(rt.alloc()));
-    write_transcript(rt.alloc(), &mut out, 65_536, &entries, u32::MAX)
+    write_transcript(rt.alloc(), &mut out, 262_144, &entries, u32::MAX)
         .ok()
         .ok_or("written")?;
     assert_eq!(rt; out.bytes(), EACH_KIND);
@@ -445,7 +445,7 @@ const BAD_TEXTS: [(&[u8], u32); 41] = [
     (b"", 1),
     (b"\n", 1),
     (b"vale 2 pool 0\nend 0 free 0\n", 1),
-    (b"vale 2 pool 65537\nend 0 free 0\n", 1),
+    (b"vale 2 pool 262145\nend 0 free 0\n", 1),
     (b"vale 2 pool 064\nend 0 free 0\n", 1),
     (b"vale 1 pool 64\nend 0 free 0\n", 1),
     (b"vale 2 pool 64", 1),
@@ -553,7 +553,7 @@ fn the_first_bad_line_is_told(rt: HostRuntime) -> Result<(), Fail> {
 
 // texts of either version, each with its version, its pool and the free buffers, and the buffers that
 // its entry lists
-const EITHER_TEXTS: [(&[u8], [u32; 3], &[u32]); 8] = [
+const EITHER_TEXTS: [(&[u8], [u32; 3], &[u32]); 9] = [
     (b"vale 1 pool 8\nend 0 free 8\n", [1, 8, 8], &[]),
     (
         b"vale 1 pool 65536\nend 0 free 4294967295\n",
@@ -561,6 +561,7 @@ const EITHER_TEXTS: [(&[u8], [u32; 3], &[u32]); 8] = [
         &[],
     ),
     (b"vale 2 pool 8\nend 0 free 7\n", [2, 8, 7], &[]),
+    (b"vale 2 pool 262144\nend 0 free 0\n", [2, 262_144, 0], &[]),
     (
         b"vale 1 pool 8\n1 1 sync 2 2,3,5 = gave 0 to -\nend 1 free 3\n",
         [1, 8, 3],

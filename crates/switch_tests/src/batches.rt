@@ -1,7 +1,7 @@
 ghost use Rattle.std.specs.Prelude.{◌≡◌, ◌≤◌, All, length};
 ghost use Rattle.vale_batch.specs.Looking.{IsFrame};
 
-use nm_types::{Batch, PortId};
+use nm_types::{Batch, MAX_FRAME_BYTES, PortId};
 use std::alloc::Global;
 use std::process::Abort;
 use vale_batch::{Lists, Lookup, classify};
@@ -28,7 +28,7 @@ fn batch_of(rt: &impl Abort, alloc: Global, frames: &[(&[u8], bool)]) -> Batch
     let mut batch = Batch::new(alloc);
     for at in 0..frames.len() {
         let (bytes, no_learn) = frames[at];
-        assert!(rt; bytes.len() <= 131_072);
+        assert!(rt; bytes.len() <= MAX_FRAME_BYTES);
         if batch.push(bytes, no_learn).is_err() {
             panic!(rt; "no memory");
         }

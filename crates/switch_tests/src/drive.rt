@@ -2,8 +2,8 @@
 mod rows;
 mod steps;
 
-use nm_types::{Limits, Part, SessionId, StepFault};
-use rows::{Asks, ROWS};
+use nm_types::{Limits, MAX_POOL, MAX_SWITCH_PORTS, Name, OpenFault, Part, SessionId, StepFault};
+use rows::{Asks, ROWS, TO_ALL};
 use std::alloc::Global;
 use std::process::Abort;
 use steps::{Answer, Step, answer_of, ask_of};
@@ -11,7 +11,7 @@ use vale_drive::Drive;
 use vale_entry::Ask;
 
 fn fresh(rt: &impl Abort, alloc: Global, pool: u32, limits: Limits) -> Drive {
-    assert!(rt; 1 <= pool && pool <= 65_536);
+    assert!(rt; 1 <= pool && pool <= MAX_POOL);
     assert!(rt; limits.entries < 4_294_967_296);
     match Drive::new(alloc, pool, limits) {
         Ok(drive) => drive,
@@ -23,11 +23,33 @@ fn answered(rt: &impl Abort, alloc: Global, drive: &mut Drive, step: Step) -> An
     let Ok(ask) = ask_of(rt, alloc, step) else {
         panic!(rt; "no memory")
     };
-    match drive.apply(&ask) {
+    answer(drive, &ask)
+}
+
+fn answer(drive: &mut Drive, ask: &Ask) -> Answer {
+    match drive.apply(ask) {
         Ok(Some(reply)) => answer_of(&reply),
         Ok(None) => Answer::NotEnabled,
         Err(fault) => Answer::Fault(fault),
     }
+}
+
+/// Opens a port of the first switch under this number, with room for a frame of three slots.
+fn opened(rt: &impl Abort, alloc: Global, drive: &mut Drive, number: u32) -> Answer {
+    let Ok(text) = format!(in alloc; "vale0:{number}") else {
+        panic!(rt; "no memory")
+    };
+    let Ok(name) = Name::parse(&text) else {
+        panic!(rt; "{text} is no name")
+    };
+    let ask = Ask::Open {
+        session: SessionId(1),
+        name,
+        tx: 2,
+        rx: 4,
+        extra: 0,
+    };
+    answer(drive, &ask)
 }
 
 /// Makes asks, each of which is answered so.
@@ -46,6 +68,30 @@ fn rows_are_answered(rt: HostRuntime) {
         play(&rt, rt.alloc(), &mut drive, *asks);
         assert_eq!(rt; drive.close().len(), *entries);
     }
+}
+
+/// A switch takes no more ports than the limits say, and a frame of three slots goes from its first
+/// one, which is 2, to all others. The first grant is entry 258.
+#[test]
+fn a_full_switch_is_served(rt: HostRuntime) {
+    let mut drive = fresh(&rt, rt.alloc(), MAX_POOL, Limits::VERSION_2);
+    let entered = answered(&rt, rt.alloc(), &mut drive, Step::Enter);
+    assert_eq!(rt; entered, Answer::Made);
+    for number in 0..MAX_SWITCH_PORTS as u32 {
+        let answer = opened(&rt, rt.alloc(), &mut drive, number);
+        assert_eq!(rt; answer, Answer::Opened);
+    }
+    let answer = opened(&rt, rt.alloc(), &mut drive, 999);
+    assert_eq!(rt; answer, Answer::Refused(OpenFault::PortsFull));
+    let sent = answered(&rt, rt.alloc(), &mut drive, TO_ALL);
+    assert_eq!(rt; sent, Answer::Offered(3, 253));
+    for port in 3..256 {
+        let granted = answered(&rt, rt.alloc(), &mut drive, Step::Grant(257, port));
+        assert_eq!(rt; granted, Answer::Shared(1, 0, 0));
+        let done = answered(&rt, rt.alloc(), &mut drive, Step::Done(252 + 2 * port));
+        assert_eq!(rt; done, Answer::Made);
+    }
+    assert_eq!(rt; drive.close().len(), 1272);
 }
 
 #[test]

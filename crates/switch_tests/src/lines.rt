@@ -1,7 +1,8 @@
 ghost use Rattle.std.specs.Prelude.{◌≡◌, ◌≤◌, [], ◌∷◌, ◌++◌, All, length, map, sum, vec_capacity, false, Some};
+ghost use Rattle.nm_types.specs.Limits.{most_ring};
 ghost use Rattle.vale_lease.specs.Leases.{is_there};
 ghost use Rattle.vale_line.specs.Fitting.{IsFrameSize};
-ghost use Rattle.vale_line.specs.Gots.{buffers_of, IsSingle};
+ghost use Rattle.vale_line.specs.Gots.{buffers_of, FitsPart, IsSingle};
 ghost use Rattle.vale_line.specs.Leased.{buffer_count};
 ghost use Rattle.vale_line.specs.Lines.{slots_out, completed, new_line, leases_of, opened_lot};
 
@@ -31,7 +32,7 @@ fn is_part(got: &Got, index: u32, len: u16, rest: u8) -> bool {
 
 /// A line of these buffers.
 fn line_of(rt: &impl Abort, alloc: Global, bufs: Vec<Buf>) -> Line
-    requires { (1 ≤ length bufs.items) × (length bufs.items ≤ 1024) }
+    requires { (1 ≤ length bufs.items) × (length bufs.items ≤ most_ring) }
     ensures { result ≡ new_line bufs.items }
 {
     match Line::new(alloc, bufs) {
@@ -86,6 +87,11 @@ fn frames_in_lease_order(rt: HostRuntime) {
     assert!(rt; first.try_fill(&[1; 14]));
     complete(&rt, &mut line, first);
     assert!(rt; line.ready() == 5 && line.out() == 1);
+    let Ok(mut sizes) = Vec::with_capacity(rt.alloc(), line.ready_frames() as usize) else {
+        panic!(rt; "no memory");
+    };
+    line.ready_sizes(&mut sizes);
+    assert!(rt; sizes.as_slice() == [3, 1, 1].as_slice());
     let Ok(room) = Vec::with_capacity(rt.alloc(), line.room_to_sync() as usize) else {
         panic!(rt; "no memory");
     };
@@ -106,6 +112,7 @@ fn frames_of(bufs: Vec<Buf>, mut gots: Vec<Got>) -> Vec<Got>
     requires room { length bufs.items ≤ vec_capacity gots }
     ensures buffers { buffers_of result.items ≡ bufs.items }
     ensures single { All IsSingle result.items }
+    ensures fits { All FitsPart result.items }
 {
     let mut rest = VecDeque::from_vec(bufs);
     while let Some(buf) = rest.pop_front() {

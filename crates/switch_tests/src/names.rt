@@ -1,4 +1,4 @@
-use nm_types::{BadName, Name, OpenFault, PortId};
+use nm_types::{BadName, MAX_EXTRA, MAX_RING, Name, OpenFault, PortId};
 use std::alloc::Global;
 use std::process::Abort;
 use std::test::Fail;
@@ -7,12 +7,12 @@ use vale_names::Names;
 /// Openings in order, each with the sizes of both rings, the extra buffers and the answer.
 const OPENINGS: [(&str, u32, u32, u32, Option<OpenFault>); 19] = [
     ("vale0:a", 4, 4, 0, None),
-    ("vale0:b", 1024, 1024, 1024, None),
+    ("vale0:b", MAX_RING, MAX_RING, MAX_EXTRA, None),
     ("vale0:c", 1, 2, 0, Some(OpenFault::BadSize)),
     ("vale0:c", 2, 1, 0, Some(OpenFault::BadSize)),
-    ("vale0:c", 1025, 2, 0, Some(OpenFault::BadSize)),
-    ("vale0:c", 2, 1025, 0, Some(OpenFault::BadSize)),
-    ("vale0:e", 2, 2, 1025, Some(OpenFault::BadSize)),
+    ("vale0:c", MAX_RING + 1, 2, 0, Some(OpenFault::BadSize)),
+    ("vale0:c", 2, MAX_RING + 1, 0, Some(OpenFault::BadSize)),
+    ("vale0:e", 2, 2, MAX_EXTRA + 1, Some(OpenFault::BadSize)),
     ("vale0:a", 0, 2, 0, Some(OpenFault::BadSize)),
     ("vale0:a", 2, 2, 0, Some(OpenFault::NameTaken)),
     ("vale:a", 2, 2, 0, None),
@@ -24,7 +24,7 @@ const OPENINGS: [(&str, u32, u32, u32, Option<OpenFault>); 19] = [
     ("mon0", 2, 2, 0, Some(OpenFault::BadSize)),
     ("mon0", 0, 2, 3, None),
     ("mon0", 0, 2, 0, Some(OpenFault::NameTaken)),
-    ("monitor", 0, 1024, 0, None),
+    ("monitor", 0, MAX_RING, 0, None),
 ];
 
 /// A step of a walk, with its answer.
@@ -72,14 +72,8 @@ const SHUT_AND_GONE: [Step; 15] = [
     Step::Finds("vale9:a", None),
 ];
 
-/// What precedes and follows a letter in the names of each kind.
-const KINDS: [(&str, &str); 5] = [
-    ("vale0:", ""),
-    ("pipe", "{"),
-    ("pipe", "}"),
-    ("mon", "0"),
-    ("mon", "1"),
-];
+/// What precedes and follows a letter in the names of pipe ends and monitors.
+const KINDS: [(&str, &str); 4] = [("pipe", "{"), ("pipe", "}"), ("mon", "0"), ("mon", "1")];
 
 /// Opens a port with rings of 2 slots (a monitor without a transmit ring), and returns the refusal.
 fn opened(names: &mut Names, text: &str, id: u32) -> Result<Option<OpenFault>, BadName> {
@@ -120,7 +114,7 @@ fn first_astray(alloc: Global, steps: &[Step]) -> Result<Option<usize>, Fail> {
     Ok(None)
 }
 
-/// Tells whether the opening of each of the five names with this letter has this answer.
+/// Tells whether the opening of each of the four names with this letter has this answer.
 fn all_answered(
     alloc: Global,
     names: &mut Names,
@@ -154,10 +148,26 @@ fn switches_live_with_their_ports(rt: HostRuntime) -> Result<(), Fail> {
     Ok(())
 }
 
-/// With 16 ports of one switch, 32 pipe ends and 32 monitors, one more of each is refused with
-/// `PortsFull`, even if its name is taken.
+/// With 254 ports of one switch, one more is refused with `PortsFull`, even if its name is taken.
 #[test]
-fn one_port_too_many(rt: HostRuntime) -> Result<(), Fail> {
+fn one_switch_port_too_many(rt: HostRuntime) -> Result<(), Fail> {
+    let alloc = rt.alloc();
+    let mut names = Names::new(alloc)?;
+    for id in 0..254 {
+        let text = format!(in alloc; "vale0:{id}")?;
+        assert!(rt; opened(&mut names, &text, id)?.is_none());
+    }
+    let full = Some(OpenFault::PortsFull);
+    assert!(rt; opened(&mut names, "vale0:0", 254)? == full);
+    assert!(rt; opened(&mut names, "vale0:z", 254)? == full);
+    assert!(rt; opened(&mut names, "vale1:0", 254)?.is_none());
+    Ok(())
+}
+
+/// With 32 pipe ends and 32 monitors, one more of each is refused with `PortsFull`, even if its
+/// name is taken.
+#[test]
+fn one_end_or_monitor_too_many(rt: HostRuntime) -> Result<(), Fail> {
     let mut names = Names::new(rt.alloc())?;
     for letter in 'a'..='p' {
         assert!(rt; all_answered(rt.alloc(), &mut names, letter, None)?);
@@ -165,6 +175,5 @@ fn one_port_too_many(rt: HostRuntime) -> Result<(), Fail> {
     let full = Some(OpenFault::PortsFull);
     assert!(rt; all_answered(rt.alloc(), &mut names, 'a', full)?);
     assert!(rt; all_answered(rt.alloc(), &mut names, 'z', full)?);
-    assert!(rt; opened(&mut names, "vale1:a", 0)?.is_none());
     Ok(())
 }

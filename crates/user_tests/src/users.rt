@@ -14,6 +14,7 @@ use vale_fabric::{Fabric, Pass};
 mod extras;
 mod gates;
 mod lines;
+mod long;
 mod threads;
 mod waiting;
 
@@ -237,16 +238,17 @@ fn name_foreign<R: Abort + Wait>(rt: &R, session: &mut Session, port: PortId)
     assert_eq!(rt; session.slot(port, Side::Tx, 0).copied(), Some(RESET));
 }
 
-/// A monitor watches what a port of a switch sends.
-fn watch<R: Abort + Wait>(rt: &R, session: &mut Session, monitor: PortId, target: &str)
+/// A monitor watches these sides of a port of a switch.
+fn watch<R: Abort + Wait>(rt: &R, session: &mut Session, monitor: PortId, target: (&str, Sides))
     ensures { session.new.fabric ≡ session.old.fabric }
 {
+    let (target, sides) = target;
     let name = match Name::parse(target) {
         Ok(name) => name,
         Err(_) => panic!(rt; "{target}"),
     };
     assert!(rt; session.is_monitor(monitor) && name.is_switch_port());
-    match session.watch(rt, monitor, &name, Sides::T) {
+    match session.watch(rt, monitor, &name, sides) {
         Ok(_) => {}
         Err(fault) => panic!(rt; "{fault:?}"),
     }
@@ -285,7 +287,7 @@ fn pipe_and_watch<R: AllocGlobal + Abort + Wait>(rt: &R, fabric: &Fabric, pass: 
     receive(rt, &mut slave.session, to);
     let sender = open(rt, &mut master.session, "vale0:a", FOUR);
     let receiver = open(rt, &mut slave.session, "vale0:b", FOUR);
-    watch(rt, &mut watcher.session, monitor, "vale0:a");
+    watch(rt, &mut watcher.session, monitor, ("vale0:a", Sides::T));
     master.session.put_frame(sender, &FRAME);
     send(rt, &mut master.session, sender, 2);
     receive(rt, &mut slave.session, receiver);

@@ -95,7 +95,7 @@ fn run_command<R: AllocGlobal + Threads + Wait + Sync, S: Shelf, K: Sink>(
     out: &mut K,
     remains: &mut Remains,
 ) -> Status
-    ensures answers { Answers Limits.VERSION_1 (answer_to (map string_bytes words.now))
+    ensures answers { Answers Limits.VERSION_2 (answer_to (map string_bytes words.now))
         (script_name (map string_bytes words.now)) (load_number (map string_bytes words.now))
         (text_name (map string_bytes words.now))
         (io_of S.Shelf K.Sink shelf.old shelf.new out.old out.new) result }

@@ -5,7 +5,7 @@ use Rattle.vale_entry.proofs.Each.{each-append}
 use Rattle.vale_script.specs.declared.script.Act.{Act}
 use Rattle.vale_script.specs.declared.script.Act.TheVariants as acts
 use Rattle.vale_script.specs.declared.script.Line.{Line}
-use Rattle.vale_replay.specs.Tasks.{Task, PutFrame, SendFrames, EndLine, fits_a_buffer, frame_of_put, played_before_sync, tasks_of, tasks_of_line, tasks_of_lines}
+use Rattle.vale_replay.specs.Tasks.{Task, PutFrame, SendFrames, EndLine, fits_to_play, frame_of_put, played_before_sync, tasks_of, tasks_of_line, tasks_of_lines}
 use Rattle.vale_replay.specs.Replay.{acts_of, act_of, is_of_user}
 use Rattle.vale_player.specs.Laws.{NeedsSession}
 use Rattle.vale_act.specs.Seats.{IsDeed, IsDeedLine}
@@ -34,7 +34,7 @@ module _ (records : List ℕ → List (List ℕ)) where
   pub act-needs : (act : Act) → IsDeed act → All (tasks_of records act)
   act-needs acts.Enter deed = absurd deed
   act-needs (acts.Put name count to from len fill) deed = all-same count (PutFrame name (frame_of_put to from len fill)) tt
-  act-needs (acts.Play name file batch) deed = frames-need name batch batch (filter fits_a_buffer (records file))
+  act-needs (acts.Play name file batch) deed = frames-need name batch batch (filter (fits_to_play name) (records file))
   act-needs (acts.Rx name false) deed = (tt, (tt, tt))
   act-needs (acts.Close name) deed = (tt, (tt, tt))
   act-needs _ deed = (tt, tt)

@@ -19,7 +19,7 @@ use Rattle.vale_own.specs.Asker.{is_enter}
 use Rattle.vale_own.specs.There.{is_coming}
 use Rattle.vale_script.specs.declared.script.Act.{Act}
 use Rattle.vale_script.specs.declared.script.Act.TheVariants as acts
-use Rattle.vale_replay.specs.Tasks.{Task, Arrive, PutFrame, SendFrames, TakeFrames, ChangeOwn, Depart, EndLine, fits_a_buffer, frame_of_put, played_before_sync, tasks_of, tasks_of_line, tasks_of_lines}
+use Rattle.vale_replay.specs.Tasks.{Task, Arrive, PutFrame, SendFrames, TakeFrames, ChangeOwn, Depart, EndLine, fits_to_play, frame_of_put, played_before_sync, tasks_of, tasks_of_line, tasks_of_lines}
 use Rattle.vale_replay.specs.Machine.{Machine, answered, call_of_task, call_of_tasks, enter_call, is_settling, next_call, resting, settling_call, with_tasks}
 use Rattle.vale_replay.specs.Replay.{TakesTurn, standing_before}
 use Rattle.vale_replay.proofs.Comers.{enter-of}
@@ -123,7 +123,7 @@ plays-keep name batch left (bytes ∷ frames) =
 
 act-keeps : (records : List ℕ → List (List ℕ)) (act : Act) → AllByRecursion KeepsSession (tasks_of records act)
 act-keeps records (acts.Put name count to from len fill) = puts-keep count name (frame_of_put to from len fill)
-act-keeps records (acts.Play name file batch) = plays-keep name batch batch (filter fits_a_buffer (records file))
+act-keeps records (acts.Play name file batch) = plays-keep name batch batch (filter (fits_to_play name) (records file))
 act-keeps records (acts.Rx name keep) =
     either-all KeepsSession keep (TakeFrames name ∷ []) (ChangeOwn (acts.Rx name keep) ∷ TakeFrames name ∷ []) (tt, tt) (tt, (tt, tt))
 act-keeps records (acts.Close name) = (tt, (tt, tt))

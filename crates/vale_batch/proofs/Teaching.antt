@@ -2,6 +2,7 @@
 use Rattle.std.proofs.Common.{ℕ, ◌≡◌, ◌+◌, List, [], ◌∷◌, ◌++◌, length, set, Option, Some, None, ◌∙◌, ap, sym}
 use Rattle.std.specs.Prelude.{fold}
 use Rattle.std.proofs.lemmas.List.{reverse-append, set-get_or}
+use Rattle.nm_types.specs.Limits.{buckets}
 use Rattle.nm_types.specs.declared.id.Mac.{Mac}
 use Rattle.nm_types.specs.declared.id.PortId.{PortId}
 use Rattle.vale_learn.specs.AddressTable.{Entries, bucket_of, entry_of, learned, port_of_address}
@@ -14,7 +15,7 @@ use Rattle.vale_batch.specs.Looking.{untaught, untaught_all}
 pub untaught-last : (entries : Entries) (taughts : List Taught) (taught : Taught) → untaught_all entries (taughts ++ taught ∷ []) ≡ untaught_all (untaught entries taught) taughts
 untaught-last entries taughts taught = ap (λ (ts : List Taught). fold untaught entries ts) (reverse-append taughts (taught ∷ []))
 
-pub untaught-learned : (entries : Entries) (taughts : List Taught) (address : Mac) (port : PortId) → length entries ≡ 1024
+pub untaught-learned : (entries : Entries) (taughts : List Taught) (address : Mac) (port : PortId) → length entries ≡ buckets
     → untaught_all (learned entries address port) (taughts ++ record { address = address; before = entry_of entries address.0 } ∷ []) ≡ untaught_all entries taughts
 untaught-learned entries taughts address port size =
     untaught-last (learned entries address port) taughts (record { address = address; before = entry_of entries address.0 })

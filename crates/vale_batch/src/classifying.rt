@@ -1,5 +1,6 @@
 ghost use Rattle.std.specs.Prelude.{◌≡◌, ◌<◌, ◌≤◌, ◌^◌, All, length, map, count_by, IfOk, OnOk, OnErr};
 ghost use Rattle.std.specs.List.{list_any};
+ghost use Rattle.nm_types.specs.Limits.{most_batch};
 ghost use Rattle.vale_batch.specs.Addresses.{is_short};
 ghost use Rattle.vale_batch.specs.Looking.{IsFrame, looked_up_batch, learned_of_batch, untaught_all};
 ghost use Rattle.vale_batch.specs.Wants.{wants_of, is_other, is_lone, is_short_destination, is_lone_if, port_number, IsRising};
@@ -93,7 +94,7 @@ pub fn classify(
     from: PortId,
     batch: &Batch,
 ) -> Result<Lists, NoMemory>
-    requires few { length batch.now ≤ 1023 }
+    requires few { length batch.now ≤ most_batch }
     requires frames { All IsFrame batch.now }
     requires ports { IsRising (map port_number ports.now) }
     ensures table { OnOk result (table.new ≡ learned_of_batch from table.old batch.now) }

@@ -1,5 +1,6 @@
 -- What a record uses and a refused call wants is together a number of 64 bits.
 use Rattle.std.proofs.Common.{ℕ, ◌+◌, ◌<◌, ◌≤◌, ◌^◌, length, Option, Some, None, arith}
+use Rattle.nm_types.specs.Limits.{most_entries, most_bytes}
 use Rattle.nm_types.specs.declared.fault.Part.{Part}
 use Rattle.nm_types.specs.declared.fault.Part.TheVariants.{Entries, Bytes}
 use Rattle.nm_types.specs.declared.fault.StepFault.TheVariants.{RecordFull}
@@ -13,7 +14,7 @@ use Rattle.vale_book.proofs.FittingWants.{Little, ports-few, step-little}
 sum-by :
     (b : Recorded) (call : Ask) (made : Option Outcome) (what : Part) (used want ports : ℕ)
     → Little ports call made → ports ≤ length b.entries → IsWithinLimits b
-    → b.limits.entries ≤ 8388608 → b.limits.bytes ≤ 536870912
+    → b.limits.entries ≤ most_entries → b.limits.bytes ≤ most_bytes
     → refused_by b call (RecordFull what used want) made → used + want < 2 ^ 64
 sum-by b call None what used want ports little few within entries bytes refused = absurd refused
 sum-by b call (Some made) Entries used want ports little few within entries bytes refused =

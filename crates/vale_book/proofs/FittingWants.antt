@@ -6,8 +6,9 @@ use Rattle.std.proofs.lemmas.Bool.{and_parts, leb-true}
 use Rattle.std.proofs.lemmas.List.{length-map}
 use Rattle.std.proofs.lemmas.List.Sums.{sum_by-cons}
 use Rattle.nm_types.specs.Frames.{Frame, bytes_of_frames, size_of_frames}
+use Rattle.nm_types.specs.Limits.{buffer_bytes, most_batch}
 use Rattle.nm_types.specs.Names.{is_switch_port_name, is_pipe_name}
-use Rattle.nm_types.specs.Sendable.{is_sendable, fits_buffer}
+use Rattle.nm_types.specs.Sendable.{is_sendable, is_frame, fits_buffer}
 use Rattle.nm_types.specs.declared.id.PortId.{PortId}
 use Rattle.nm_types.specs.declared.id.SessionId.{SessionId}
 use Rattle.nm_types.specs.declared.id.Sides.{Sides}
@@ -30,7 +31,7 @@ use Rattle.vale_entry.specs.Laws.{Rise, id_of_port}
 use Rattle.vale_entry.specs.Legal.{Standing, Outcome, step, world_of, made_at, fits_u64, fits_chain, enter_step, can_open, open_step_by, can_send, send_step, named_of, is_offer_next, grant_step, done_step, can_sync, can_get, sync_step, can_reset, reset_step, can_shut, shut_step, can_go, finish_step, finish_step_at, leave_step, can_put, can_offer, put_step_by, put_step_at, watch_step_by, watch_step_of, stat_step}
 use Rattle.vale_entry.proofs.Numbered.{world-numbered}
 use Rattle.vale_entry.proofs.Worlds.{count-world_of}
-use Rattle.vale_entry.proofs.FrameBytes.{frames-bytes}
+use Rattle.vale_entry.proofs.FrameBytes.{frames-slots}
 
 -- ports are no more than entries, and offers no more than ports
 
@@ -76,27 +77,27 @@ dests-few origin session wanted ports =
     omega (arith, offers, same)
 
 sendable-bytes :
-    (frames : List Frame) → is_sendable frames ≡ true → bytes_of_frames frames ≤ 2048 * 1023
+    (frames : List Frame) → is_sendable frames ≡ true → bytes_of_frames frames ≤ buffer_bytes * most_batch
 sendable-bytes frames may =
     let parts =
-    and_parts (nat_le (length frames) 1023)
-    (nat_le (size_of_frames frames) 1023 && list_all fits_buffer frames) may in
+    and_parts (nat_le (length frames) most_batch)
+    (nat_le (size_of_frames frames) most_batch && list_all is_frame frames) may in
     let rest =
-    and_parts (nat_le (size_of_frames frames) 1023) (list_all fits_buffer frames) parts.1 in
-    let count = leb-true (length frames) 1023 parts.0 in
-    let all = frames-bytes frames rest.1 in
-    omega (arith, count, all)
+    and_parts (nat_le (size_of_frames frames) most_batch) (list_all is_frame frames) parts.1 in
+    let size = leb-true (size_of_frames frames) most_batch rest.0 in
+    let all = frames-slots frames in
+    omega (arith, size, all)
 
 -- and so have those of the items that a pipe's other end takes
 items-few :
     (count : ℕ) (items : List Item) → list_all is_pipe_item items ≡ true
-    → bytes_of_frames (frames_of_items (take count items)) ≤ 2048 * length items
+    → bytes_of_frames (frames_of_items (take count items)) ≤ buffer_bytes * length items
 items-few zero items fit = omega arith
 items-few (suc count) [] fit = omega arith
 items-few (suc count) (item ∷ items) fit =
     let parts = and_parts (is_pipe_item item) (list_all is_pipe_item items) fit in
     let fits = and_parts (fits_buffer item.bytes) (not item.bytes.no_learn) parts.0 in
-    let here = leb-true (length item.bytes.bytes) 2048 fits.0 in
+    let here = leb-true (length item.bytes.bytes) buffer_bytes fits.0 in
     let rest = items-few count items parts.1 in
     let cut =
     sum_by-cons (λ (f : Frame). length f.bytes) item.bytes (frames_of_items (take count items)) in
@@ -106,7 +107,7 @@ items-few (suc count) (item ∷ items) fit =
 
 pub record WantsLittle (ports : ℕ) (ask : Ask) (made : Outcome) : Type 0 where
   pub room : made.want ≤ 3 + 2 * ports
-  pub bytes : bytes_of ask made.reply ≤ 2048 * 1023
+  pub bytes : bytes_of ask made.reply ≤ buffer_bytes * most_batch
 
 abbrev pub Little : ℕ → Ask → Option Outcome → Type 0
 Little ports ask None = Unit {0}
@@ -180,7 +181,7 @@ put-bytes :
     (peer : Option Port)
     → list_all is_pipe_item offered ≡ true
     → bytes_of (Put id offered) (put_step_by s (take count offered) port peer).reply
-    ≤ 2048 * length offered
+    ≤ buffer_bytes * length offered
 put-bytes s id count offered port None fit = omega arith
 put-bytes s id count offered port (Some peer) fit = items-few count offered fit
 
@@ -191,7 +192,7 @@ put-little :
 put-little s id offered port can =
     let peer = peer_of s.world.ports port in
     let count = taken_count peer (length offered) in
-    let outer = and_parts (can_offer s offered port) (nat_le (length offered) 1023) can in
+    let outer = and_parts (can_offer s offered port) (nat_le (length offered) most_batch) can in
     let pipe = and_parts (is_pipe_name port.name)
     (is_settled s.world port.session
     && (list_all is_pipe_item offered && holds_all s.holdings port.session (indices_of offered)))
@@ -202,7 +203,7 @@ put-little s id offered port can =
     let fits =
     and_parts (list_all is_pipe_item offered) (holds_all s.holdings port.session (indices_of offered))
     settled.1 in
-    let few = leb-true (length offered) 1023 outer.1 in
+    let few = leb-true (length offered) most_batch outer.1 in
     let bytes = put-bytes s id count offered port peer fits.0 in
     record { room = put-room s (take count offered) port peer; bytes = omega (arith, few, bytes) }
 

@@ -40,6 +40,7 @@ use Rattle.vale_port.specs.Ports.{PortState, IsLeaseFor, sizes_of}
 use Rattle.vale_port.specs.Seat.{Seat, seats_of, given_frames, seat_given}
 use Rattle.vale_port.proofs.Lists.{new_is_new, seats-at}
 use Rattle.vale_port.proofs.SeatTies.{sizes_are_frame_sizes}
+use Rattle.vale_book.proofs.WholeFrames.{offer-whole}
 use Rattle.vale_port.proofs.Places.{seat_change_is_change}
 use Rattle.vale_parts.specs.Offering.{OffersAre, offers_at}
 use Rattle.vale_parts.specs.Parts.{Parts, ArePartsAfter}
@@ -482,8 +483,9 @@ entry-is o rest i want out seen = ap (λ (v : OffersState). v.entry) out ∙ ap 
 
 -- ---- what the calls ask for
 
-pub sizes-fit : (b : Inside) (entry session : ℕ) (want : Wanted) → IsGrant b entry session want → All IsFrameSize want.sizes
-sizes-fit b entry session want g = subst (All IsFrameSize) (sym g.sizes) (sizes_are_frame_sizes g.offer.frames)
+pub sizes-fit : (b : Inside) (entry session : ℕ) (want : Wanted) → IsBook b → IsGrant b entry session want → All IsFrameSize want.sizes
+sizes-fit b entry session want k g =
+    subst (All IsFrameSize) (sym g.sizes) (sizes_are_frame_sizes g.offer.frames (offer-whole b.pool.buffers b.history.entries entry g.offer k.stands.legal g.first))
 
 pub counted-there : (b : Inside) (id : ℕ) (port : Port) → IsBook b → open_port (before b).world.ports id ≡ Some port → IsSome (counts_of b.tally id)
 counted-there b id port k found = rw (open_counted b.pool.buffers b.history.entries b.tally id port k.stands.legal k.stands.parts_are.counts_are found) refl

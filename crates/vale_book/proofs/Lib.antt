@@ -34,3 +34,5 @@ pub mod FilledIn
 pub mod OffersHeld
 pub mod LeasesHeld
 pub mod PutsTold
+pub mod LeaseBuffers
+pub mod WholeFrames

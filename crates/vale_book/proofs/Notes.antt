@@ -1,16 +1,16 @@
 -- An entry that changes nothing else.
-use Rattle.std.proofs.Common.{ℕ, [], ◌∷◌, ◌++◌, ◌≡◌, Some, Result, Ok, Err, OnOk, OnErr, IfErr, refl, sym, subst, arith}
+use Rattle.std.proofs.Common.{ℕ, [], ◌∷◌, ◌++◌, ◌≡◌, Some, Result, Ok, Err, OnOk, OnErr, refl, sym, subst, arith}
 use Rattle.nm_types.specs.declared.fault.StepFault.{StepFault}
 use Rattle.vale_entry.specs.declared.entry.Ask.{Ask}
 use Rattle.vale_entry.specs.declared.entry.Reply.{Reply}
 use Rattle.vale_entry.specs.Legal.{step, unchanged, kept_ask}
 use Rattle.vale_entry.specs.Room.{bytes_of}
-use Rattle.vale_entry.specs.Stored.{Stored, Fits, IsFull}
+use Rattle.vale_entry.specs.Stored.{Stored, Fits}
 use Rattle.vale_parts.specs.Parts.{ArePartsAfter}
 use Rattle.vale_book.specs.declared.book.Book.TheInside.{Inside}
-use Rattle.vale_book.specs.BookView.{recorded, parts_in, IsBook}
-use Rattle.vale_own.specs.Recorded.{entry_of, IsRefusal}
-use Rattle.vale_book.proofs.Moves.{Moves, Stays, before, fits-step, full-step}
+use Rattle.vale_book.specs.BookView.{parts_in, IsBook}
+use Rattle.vale_own.specs.Recorded.{entry_of}
+use Rattle.vale_book.proofs.Moves.{Moves, Stays, before, fits-step}
 use Rattle.vale_book.proofs.Quiet.{quiet-moves}
 
 abbrev pub with_history : Inside → Stored → Inside
@@ -38,9 +38,3 @@ pub note-stays : {A : Type 0} (r : Result A StepFault) (b : Inside) (h : Stored)
 note-stays (Ok a) b h entries promised limits = tt
 note-stays (Err e) b h entries promised limits =
     record { entries = entries; limits = limits; promised = promised; sessions = refl; ports = refl; parts = refl; region = refl; buffers = refl }
-
-pub note-full : {A : Type 0} (r : Result A StepFault) (b : Inside) (ask : Ask) (session : ℕ) (reply : Reply) → IsBook b → IsNote b ask session reply
-    → IfErr r (IsFull b.history 1 0) → IfErr r (IsRefusal (recorded b) ask)
-note-full (Ok a) b ask session reply k note full = tt
-note-full (Err e) b ask session reply k note full =
-    full-step b ask (unchanged (before b) session reply) e k note.step_is (subst (λ (n : ℕ). IsFull b.history 1 n e) (sym note.no_bytes) full)

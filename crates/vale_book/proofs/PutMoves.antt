@@ -2,7 +2,7 @@
 use Rattle.std.proofs.Common.{ℕ, true, false, ◌≡◌, ◌≤◌, ◌+◌, nat_le, List, [], ◌∷◌, ◌++◌, length, take, slice_set, Option, Some, None, option_map, is_some, Result, Ok, Err, OnOk, OnErr, IfOk, refl, sym, ◌∙◌, ap, subst, arith}
 use Rattle.std.specs.Prelude.{IsSome, IfSome, IfNone, All}
 use Rattle.std.specs.Option.{ForSome, option_map_or}
-use Rattle.std.specs.List.{AllByRecursion as Each}
+use Rattle.std.specs.List.{list_all, AllByRecursion as Each}
 use Rattle.std.proofs.lemmas.Bool.{and_parts, leb-true}
 use Rattle.std.proofs.lemmas.List.{length-map, length-take-le}
 use Rattle.nm_types.specs.declared.id.PortId.{PortId}
@@ -29,12 +29,12 @@ use Rattle.vale_entry.specs.declared.entry.Reply.TheVariants.{Took, PeerGone}
 use Rattle.vale_entry.specs.declared.entry.Dest.{Dest}
 use Rattle.vale_entry.specs.declared.entry.Item.{Item}
 use Rattle.vale_entry.specs.declared.entry.Entry.{Entry}
-use Rattle.vale_entry.specs.World.{Port, open_port, transmit_monitor}
+use Rattle.vale_entry.specs.World.{Port, open_port, is_settled, transmit_monitor}
 use Rattle.vale_entry.specs.Holdings.{with_put_buffers, first_idle}
 use Rattle.vale_entry.specs.Laws.{HasLotsUpTo}
 use Rattle.vale_entry.specs.Legal.{Standing, Outcome, step, unchanged, can_put, put_step, put_step_by, put_step_at, offers_of_put, room_of_dests, IsEnabled, Follows, world_of}
 use Rattle.vale_entry.specs.Offers.{dests_of, monitored_frames}
-use Rattle.vale_entry.specs.Pipe.{peer_of, peer_at, peer_of_found, taken_count, frames_of_items, port_after_put}
+use Rattle.vale_entry.specs.Pipe.{peer_of, peer_at, peer_of_found, taken_count, frames_of_items, is_pipe_item, port_after_put}
 use Rattle.vale_entry.specs.Pipe.{indices_of as item_indices}
 use Rattle.vale_entry.specs.Stored.{Fits, IsFull}
 use Rattle.vale_entry.proofs.Worlds.{count-world_of}
@@ -78,11 +78,12 @@ use Rattle.nm_types.specs.Ids.{lease_id}
 use Rattle.nm_types.proofs.Lists.{each-front}
 use Rattle.vale_own.specs.Recorded.{entry_of, IsRefusal}
 use Rattle.vale_book.proofs.Found.{open_at, open-here, never-missing as never-closed}
-use Rattle.vale_steps.proofs.MonitoredWants.{wants-monitored}
+use Rattle.vale_steps.proofs.MonitoredWants.{wants-put}
 use Rattle.vale_book.proofs.Moves.{Moves, Stays, before, fits-step, full-step, entries-few}
 use Rattle.vale_book.proofs.OfferedTo.{by-session, StandOffered, offered-to}
 use Rattle.vale_book.proofs.PortLines.{of-first, of-put}
 use Rattle.vale_steps.proofs.PutLists.{items-first, indices-items, frames-items}
+use Rattle.vale_book.proofs.PutsTold.{fit-taken}
 use Rattle.vale_book.proofs.ReadMoves.{IsRest}
 use Rattle.vale_own.proofs.Rooms.{step-recorded}
 use Rattle.vale_steps.proofs.Lists.{each-take}
@@ -95,6 +96,7 @@ pub record IsPutAt (b : Inside) (at : PortId) (items : List Item) (place : ℕ) 
   pub here : IsHere b.pool.buffers b.history.entries b (open_at at.0) place port
   pub id_is : port.id ≡ at.0
   pub is_pipe : is_pipe_name port.name ≡ true
+  pub pipe : list_all is_pipe_item items ≡ true
   pub few : length items ≤ most_batch
   pub step_is : step (before b) (Put at items) ≡ Some (put_step_at (before b) items port)
 
@@ -107,11 +109,14 @@ put-at b at items place k enabled found =
     let s = before b in
     let here = open-here b at.0 place (can_put s items) k found enabled in
     let parts = and_parts _ (nat_le (length items) most_batch) here.passes in
+    let name = and_parts (is_pipe_name here.port.name) _ parts.0 in
+    let each = and_parts (is_settled s.world here.port.session) _ name.1 in
     record {
       port = here.port;
       here = here.here;
       id_is = here.id_is;
-      is_pipe = (and_parts (is_pipe_name here.port.name) _ parts.0).0;
+      is_pipe = name.0;
+      pipe = (and_parts (list_all is_pipe_item items) _ each.1).0;
       few = leb-true (length items) most_batch parts.1;
       step_is = step-put s at items here.port here.here.found here.passes;
     }
@@ -230,6 +235,7 @@ pub record IsPutting (b : Inside) (p : Putting) (gots : List Got) : Type 0 where
   pub there : IsHere b.pool.buffers b.history.entries b (open_at p.peer.0) p.place peer
   pub peer_id : peer.id ≡ p.peer.0
   pub offered : length (items_of gots) ≡ p.offered
+  pub pipe : list_all is_pipe_item (items_of gots) ≡ true
   pub took : p.took ≡ taken_count (Some peer) (length gots)
   pub few : length gots ≤ most_batch
   pub monitor : id_of p.monitor ≡ transmit_monitor (before b).world port.id
@@ -292,6 +298,7 @@ putting-is b at session peer place there offered took monitor gots k r own name 
       there = at-there;
       peer_id = f.id_is;
       offered = count-items gots ∙ count;
+      pipe = r.pipe;
       took = same;
       few = subst (λ (n : ℕ). n ≤ most_batch) (count-items gots) r.few;
       monitor = ap id_of watched ∙ (k.stands.parts_are.watches_are.transmit at.0 ∙ ap (transmit_monitor w) (sym r.id_is));
@@ -354,9 +361,6 @@ taken_frames p gots = frames_of_items (taken_items p gots)
 pub took-few : (b : Inside) (p : Putting) (gots : List Got) → IsPutting b p gots → p.took ≤ length gots
 took-few b p gots is = let took = is.took in omega (arith, took)
 
-pub took-most : (b : Inside) (p : Putting) (gots : List Got) → IsPutting b p gots → p.took ≤ most_batch
-took-most b p gots is = let few = is.few in let took = took-few b p gots is in omega (arith, took, few)
-
 count-taken : (b : Inside) (p : Putting) (gots : List Got) → IsPutting b p gots → length (taken_items p gots) ≡ p.took
 count-taken b p gots is = count-items (take p.took gots) ∙ length-take-le p.took gots (took-few b p gots is)
 
@@ -365,7 +369,7 @@ count-frames b p gots is = sym (length-map (taken_items p gots) _ ∙ count-take
 
 wants-are : (b : Inside) (p : Putting) (gots : List Got) → (is : IsPutting b p gots)
     → wants_put p ≡ wants_monitored (transmit_monitor (before b).world is.port.id) (taken_frames p gots) []
-wants-are b p gots is = wants-monitored p.monitor (taken_frames p gots) p.took (transmit_monitor (before b).world is.port.id) (count-frames b p gots is) is.monitor
+wants-are b p gots is = wants-put p.monitor (taken_frames p gots) p.took (transmit_monitor (before b).world is.port.id) (count-frames b p gots is) (fit-taken p.took gots is.pipe) is.monitor
 
 dests-are : (b : Inside) (p : Putting) (gots : List Got) → IsBook b → (is : IsPutting b p gots) → dests_of (offers_of_put (before b).world is.port (taken_frames p gots)) ≡ dests_wanted (wants_put p)
 dests-are b p gots k is = puts_replied b.pool.buffers b.history.entries is.port (taken_frames p gots) k.stands.legal ∙ ap dests_wanted (sym (wants-are b p gots is))

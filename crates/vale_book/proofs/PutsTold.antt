@@ -1,14 +1,16 @@
 -- How a put is answered.
 use Rattle.std.proofs.Common.{ℕ, ◌≡◌, Bool, true, false, ◌&&◌, List, [], ◌∷◌, take, length, Option, Some, None, refl, sym, ◌∙◌, ap}
-use Rattle.std.specs.Prelude.{if◌then◌else◌, zero, suc, nat_le}
-use Rattle.std.specs.List.{list_all}
-use Rattle.std.proofs.lemmas.Bool.{and_parts}
+use Rattle.std.specs.Prelude.{if◌then◌else◌, zero, suc, nat_le, All}
+use Rattle.std.specs.List.{list_all, AllByRecursion as Each}
+use Rattle.std.proofs.lemmas.Bool.{and_parts, leb-true}
+use Rattle.std.proofs.lemmas.List.Elements.{All-from_recursion}
 use Rattle.std.proofs.lemmas.List.{length-map, take-map}
 use Rattle.nm_types.specs.Frames.{Frame}
 use Rattle.nm_types.specs.Limits.{most_batch}
 use Rattle.nm_types.specs.Sendable.{fits_buffer}
 use Rattle.nm_types.specs.declared.id.PortId.{PortId}
 use Rattle.vale_line.specs.declared.got.Got.{Got}
+use Rattle.vale_line.specs.Gots.{part_in, FitsPart}
 use Rattle.vale_entry.specs.declared.entry.Ask.TheVariants.{Put}
 use Rattle.vale_entry.specs.declared.entry.Dest.{Dest}
 use Rattle.vale_entry.specs.declared.entry.Item.{Item}
@@ -71,7 +73,16 @@ gone-said {b} {at} {items} steps gone =
 
 -- what is put fits a buffer
 
-fit-taken : (n : ℕ) (gots : List Got) → list_all is_pipe_item (items_of gots) ≡ true → list_all fits_buffer (frames_of_items (items_of (take n gots))) ≡ true
+fit-each : (gots : List Got) → list_all is_pipe_item (items_of gots) ≡ true → Each FitsPart gots
+fit-each [] all = tt
+fit-each (got ∷ gots) all =
+    let parts = and_parts (is_pipe_item (item_of got)) (list_all is_pipe_item (items_of gots)) all in
+    (leb-true (length (part_in got)) 2048 (and_parts (fits_buffer (item_of got).bytes) _ parts.0).0, fit-each gots parts.1)
+
+pub fit-parts : (gots : List Got) → list_all is_pipe_item (items_of gots) ≡ true → All FitsPart gots
+fit-parts gots all = All-from_recursion FitsPart gots (fit-each gots all)
+
+pub fit-taken : (n : ℕ) (gots : List Got) → list_all is_pipe_item (items_of gots) ≡ true → list_all fits_buffer (frames_of_items (items_of (take n gots))) ≡ true
 fit-taken zero gots all = refl
 fit-taken (suc n) [] all = refl
 fit-taken (suc n) (got ∷ gots) all =

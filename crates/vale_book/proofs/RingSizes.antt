@@ -1,8 +1,9 @@
--- A receive ring has at most 1,024 slots, and one of them is always idle.
+-- A receive ring has at most `most_ring` slots, and one of them is always idle.
 use Rattle.std.proofs.Common.{ℕ, Bool, true, false, cond, not, ◌≡◌, ◌≤◌, ◌<◌, ◌+◌, ◌&&◌, ◌==◌, nat_le, slice_get, List, length, Option, Some, None, refl, arith}
 use Rattle.std.specs.List.{AllByRecursion as Each}
 use Rattle.std.proofs.lemmas.Bool.{and_parts, leb-true}
-use Rattle.nm_types.specs.Limits.{most_ring}
+use Rattle.nm_types.specs.Frames.{size_of_frames}
+use Rattle.nm_types.specs.Limits.{least_ring, most_extra, most_ring}
 use Rattle.nm_types.specs.declared.fault.OpenFault.{OpenFault}
 use Rattle.nm_types.specs.declared.fault.OpenFault.TheVariants.{BadSize}
 use Rattle.vale_entry.specs.declared.entry.Entry.{Entry}
@@ -19,12 +20,11 @@ use Rattle.vale_entry.proofs.ListLaws.{each-at}
 use Rattle.vale_entry.proofs.Removals.{each-filter}
 use Rattle.vale_entry.proofs.Roomy.{HasRoom, delivered-size}
 use Rattle.vale_entry.proofs.Steps.{legal-by}
-use Rattle.vale_entry.proofs.Slots.{frames-few}
 
-abbrev HasRing : Port → Type 0
+abbrev pub HasRing : Port → Type 0
 HasRing port = port.rx ≤ most_ring
 
-abbrev Rings : Standing → Type 0
+abbrev pub Rings : Standing → Type 0
 Rings s = Each HasRing s.world.ports
 
 pub none-first : (refusal : Option OpenFault) (want have : ℕ) → refusal_or_room refusal want have ≡ None → refusal ≡ None
@@ -38,8 +38,8 @@ sizes-first false rest none = absurd cc
 opened-ring : (w : World) (name : List ℕ) (tx rx extra : ℕ) → open_refusal w name tx rx extra ≡ None → rx ≤ most_ring
 opened-ring w name tx rx extra none =
     let sizes = sizes-first (are_sizes name tx rx extra) _ (none-first (names_refusal (names_of w.ports) name tx rx extra) (tx + rx + extra) (free_count w) none) in
-    let ring = (and_parts (is_ring_size rx) (nat_le extra 1024) (and_parts _ (is_ring_size rx && nat_le extra 1024) sizes).1).0 in
-    leb-true rx 1024 (and_parts (nat_le 2 rx) (nat_le rx 1024) ring).1
+    let ring = (and_parts (is_ring_size rx) (nat_le extra most_extra) (and_parts _ (is_ring_size rx && nat_le extra most_extra) sizes).1).0 in
+    leb-true rx most_ring (and_parts (nat_le least_ring rx) (nat_le rx most_ring) ring).1
 
 rings-kept : (s : Standing) → Rings s → EachKind s (λ ask made. Rings made.next)
 rings-kept s all =
@@ -59,17 +59,16 @@ rings-kept s all =
       leaves = λ session can. all;
     }
 
-rings-small : (pool : ℕ) (h : List Entry) → IsLegal pool h → Rings (standing_of pool h)
+pub rings-small : (pool : ℕ) (h : List Entry) → IsLegal pool h → Rings (standing_of pool h)
 rings-small pool h legal = legal-by Rings (λ s e all follows. after-by s Rings e all (rings-kept s all)) pool h legal tt
 
--- so no more frames are ready
+-- so no more slots are ready
 pub delivered-few : (pool : ℕ) (h : List Entry) (place : ℕ) (port : Port) → IsLegal pool h → slice_get (world_of pool h).ports place ≡ Some port
-    → length (delivered_frames port) < most_ring
+    → size_of_frames (delivered_frames port) < most_ring
 delivered-few pool h place port legal here =
     let ports = (world_of pool h).ports in
     let room : HasRoom port = each-at HasRoom ports place port (history-stands pool h legal).roomy.roomy here in
     let ring : port.rx ≤ most_ring = each-at HasRing ports place port (rings-small pool h legal) here in
     let fits = room.fits in
     let size = delivered-size port in
-    let few = frames-few (delivered_frames port) in
-    omega (arith, ring, fits, size, few)
+    omega (arith, ring, fits, size)

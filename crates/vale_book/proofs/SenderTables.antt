@@ -1,5 +1,5 @@
 -- The table of a sender's switch is found among those of all switches.
-use Rattle.std.proofs.Common.{ℕ, zero, suc, true, ◌&&◌, ◌≡◌, ◌<◌, List, [], ◌∷◌, length, map, slice_get, slice_set, get_or, Option, Some, None, option_map, refl, sym, ◌∙◌, ap, subst, rules}
+use Rattle.std.proofs.Common.{ℕ, true, ◌&&◌, ◌≡◌, ◌<◌, List, length, map, slice_get, slice_set, get_or, Option, Some, None, option_map, refl, sym, ◌∙◌, ap, subst, rules}
 use Rattle.std.specs.List.{position}
 use Rattle.std.proofs.lemmas.Bool.{and_parts, both_ways}
 use Rattle.std.proofs.lemmas.List.{map-set}
@@ -23,12 +23,6 @@ use Rattle.vale_steps.specs.declared.tables.NamedTable.{NamedTable}
 use Rattle.vale_steps.specs.NamedTables.{is_for_switch}
 use Rattle.vale_steps.specs.NamedTables.{table_seen}
 use Rattle.vale_steps.proofs.NamedTables.{found-table, table-none}
-
--- what is put back in its place
-pub set-back : {X : Type 0} (xs : List X) (at : ℕ) (x other : X) → slice_get xs at ≡ Some x → slice_set (slice_set xs at other) at x ≡ xs
-set-back [] at x other is = refl
-set-back (y ∷ ys) zero x other is = (let same : y ≡ x = cc in ap (λ z. z ∷ ys) (sym same))
-set-back (y ∷ ys) (suc at) x other is = ap (λ zs. y ∷ zs) (set-back ys at x other is)
 
 -- the table at a place is that of the switch that a port of this name is on
 pub record IsTableAt (w : World) (name : List ℕ) (tables : List NamedTable) (place : ℕ) (table : NamedTable) : Type 0 where

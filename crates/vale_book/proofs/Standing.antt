@@ -7,6 +7,8 @@ use Rattle.vale_entry.specs.Legal.{world_of, holdings_of, is_met}
 use Rattle.vale_entry.proofs.HistoryLaws.{numbers-rise, holdings-agree}
 use Rattle.vale_port.specs.Seat.{port_of, seats_of}
 use Rattle.vale_port.specs.Lists.{IsFoundAt, IsNotFound, AreRising, StandsAt}
+use Rattle.vale_port.specs.Ports.{AreByRisingIds}
+use Rattle.vale_port.proofs.ByRisingIds.{by-rising-ids}
 use Rattle.vale_port.proofs.Lists.{are-length, seats-ports, each_port_stands, found_is_found, not_found_is_none}
 pub use Rattle.vale_steps.proofs.Lists.{each-take}
 use Rattle.vale_book.specs.declared.book.Book.TheInside.{Inside}
@@ -31,6 +33,10 @@ ports-rising pool h b stands = record {
   agree = (holdings-agree pool h stands.legal).ports_agree;
   stand = stands.ports_are;
 }
+
+-- they are found by halves
+pub by-ids : (pool : ℕ) (h : List Entry) (b : Inside) → StandsFor pool h b → AreByRisingIds b.ports.items
+by-ids pool h b stands = by-rising-ids (world_of pool h).ports (holdings_of pool h).ports b.ports.items (ports-rising pool h b stands)
 
 -- the port that a search finds at a place
 pub record IsHere (pool : ℕ) (h : List Entry) (b : Inside) (search' : List Port → Option Port) (place : ℕ) (port : Port) : Type 0 where

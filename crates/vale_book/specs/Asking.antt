@@ -1,5 +1,6 @@
 -- What a book answers of a port.
 use Rattle.std.specs.Prelude.{◌≡◌, length, Option, Some, None, is_some}
+use Rattle.nm_types.specs.Frames.{size_of_frames}
 use Rattle.vale_entry.specs.World.{World, Port, due_of, receive_monitor}
 use Rattle.vale_entry.specs.Delivery.{delivered_frames}
 use Rattle.vale_entry.specs.Closing.{leases_out}
@@ -21,7 +22,12 @@ IsSeenAs None (Some seen) = ⊥
 IsSeenAs (Some port) None = ⊥
 IsSeenAs (Some port) (Some seen) = IsSeen port seen
 
--- what a sync of the port gives, and whether its receive side has a monitor
+-- what a sync of the port gives
+pub record AreReady (port : Port) (ready : Ready) : Type 0 where
+  pub frames : ready.frames ≡ length (delivered_frames port)
+  pub buffers : ready.buffers ≡ size_of_frames (delivered_frames port)
+
+-- and whether its receive side has a monitor
 pub record IsReady (w : World) (port : Port) (ready : Ready) : Type 0 where
-  pub count : ready.count ≡ length (delivered_frames port)
+  pub are : AreReady port ready
   pub watched : ready.is_watched ≡ is_some (receive_monitor w port.id)

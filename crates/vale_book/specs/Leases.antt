@@ -1,7 +1,8 @@
 -- Leases of a book: what a grant gives, and what a lease that is done must hold.
-use Rattle.std.specs.Prelude.{ℕ, Bool, true, false, ◌≡◌, ◌-◌, ◌==◌, List, [], find, map, slice_get, Some}
+use Rattle.std.specs.Prelude.{ℕ, Bool, true, false, ◌≡◌, ◌-◌, ◌==◌, List, [], ◌++◌, find, length, map, sum, slice_get, Some}
 use Rattle.nm_types.specs.Frames.{Frame, size_of_frames}
-use Rattle.nm_region.specs.Buffers.{indices_of}
+use Rattle.nm_region.specs.Buffers.{indices_of, names_of}
+use Rattle.vale_line.specs.Gots.{IsCut, buffers_of}
 use Rattle.vale_line.specs.Leased.{Leased, buffer_count}
 use Rattle.vale_entry.specs.declared.entry.Ask.{Ask}
 use Rattle.vale_entry.specs.declared.entry.Ask.TheVariants.{Grant}
@@ -62,6 +63,13 @@ pub record IsToFill (lease : Leased) (frames : List (List ℕ)) (places : List �
   pub book : Recorded
   pub session : ℕ
   pub is : IsHeldFor book session lease frames places
+
+-- a lease that frames were filled in keeps the buffers that it began with: whole frames lie in the first
+-- ones, and the others are for the frames that are still to be filled in
+pub record KeepsBuffers (start lease : Leased) : Type 0 where
+  pub cut : IsCut lease.filled
+  pub left : length lease.empty ≡ sum lease.sizes
+  pub names : names_of (buffers_of lease.filled ++ lease.empty) ≡ names_of start.empty
 
 -- of the session's own leases this one, which the Grant of its number gave, is filled with the frames of
 -- its lot, in the lot's buffers

@@ -1,12 +1,13 @@
-ghost use Rattle.std.specs.Prelude.{◌≡◌, ◌<◌, length, Some};
+ghost use Rattle.std.specs.Prelude.{◌≡◌, ◌<◌, length, Some, IfOk};
 ghost use Rattle.vale_book.specs.Words.{OfSeat, Port as Seen, delivered_frames, open_port};
-ghost use Rattle.vale_book.specs.Words.{shutting_port, size_of_frames};
-ghost use Rattle.vale_book.specs.Asking.{IsSeen, IsSeenAs, IsReady};
+ghost use Rattle.vale_book.specs.Words.{shutting_port, sizes_of};
+ghost use Rattle.vale_book.specs.Asking.{AreReady, IsSeen, IsSeenAs, IsReady};
 ghost use Rattle.vale_own.specs.Recorded.{standing};
 
 use crate::book::Book;
-use nm_types::{Name, PortId, SessionId, Side};
+use nm_types::{Name, NoMemory, PortId, SessionId, Side};
 use vale_port::{Port, open_port, shutting_port};
+use vale_steps::reading::ready_sizes;
 
 /// What stands of a port.
 #[derive(Clone, Copy)]
@@ -26,9 +27,11 @@ pub struct PortSeen {
 /// What a sync of a port, or a get, would give.
 #[derive(Clone, Copy)]
 pub struct Ready {
-    /// How many frames, each in a buffer.
-    pub count: u32,
-    /// Whether a monitor is offered them.
+    /// How many frames.
+    pub frames: u32,
+    /// How many buffers, in which these lie.
+    pub buffers: u32,
+    /// Whether a monitor is offered the frames.
     pub is_watched: bool,
 }
 
@@ -48,13 +51,18 @@ fn seen_at(ports: &[Port], place: usize) -> PortSeen
     }
 }
 
-/// How many frames are ready at the port of a place.
-fn ready_at(ports: &[Port], place: usize) -> u32
+/// What is ready at the port of a place, which is watched or not.
+fn ready_at(ports: &[Port], place: usize, is_watched: bool) -> Ready
     requires { place < length ports.now }
-    ensures { OfSeat (λ seat. result ≡ size_of_frames (delivered_frames seat.port))
-        ports.now place }
+    ensures are { OfSeat (λ seat. AreReady seat.port result) ports.now place }
+    ensures watched { result.is_watched ≡ is_watched }
 {
-    ports[place].ready()
+    let port = &ports[place];
+    Ready {
+        frames: port.ready_frames(),
+        buffers: port.ready(),
+        is_watched,
+    }
 }
 
 impl Book {
@@ -84,14 +92,27 @@ impl Book {
             → IsReady (standing self.now).world seen result }
     {
         match open_port(&self.ports, port) {
-            Some(place) => Ready {
-                count: ready_at(&self.ports, place),
-                is_watched: self.watches.of(port, Side::Rx).is_some(),
-            },
+            Some(place) => {
+                let is_watched = self.watches.of(port, Side::Rx).is_some();
+                ready_at(&self.ports, place, is_watched)
+            }
             None => Ready {
-                count: 0,
+                frames: 0,
+                buffers: 0,
                 is_watched: false,
             },
+        }
+    }
+
+    /// The slots of each frame that a sync of the open port of this id, or a get, would give.
+    pub fn ready_sizes(&self, port: PortId) -> Result<Vec<u32>, NoMemory>
+        ensures { IfOk result (λ sizes. (seen : Seen)
+            → open_port (standing self.now).world.ports port.0 ≡ Some seen
+            → sizes.items ≡ sizes_of (delivered_frames seen)) }
+    {
+        match open_port(&self.ports, port) {
+            Some(place) => ready_sizes(self.alloc, &self.ports, place),
+            None => Ok(Vec::new(self.alloc)),
         }
     }
 

@@ -45,7 +45,7 @@ impl Model for Book {
 }
 
 impl Book {
-    /// A book with no entries, over a pool of so many buffers, all free. A pool has 1 to 65,536
+    /// A book with no entries, over a pool of so many buffers, all free. A pool has 1 to 262,144
     /// buffers, and the limit on entries is below 2^32.
     pub fn new(alloc: Global, buffers: u32, limits: Limits) -> Result<Book, NoMemory>
         requires pool { IsPoolSize buffers }

@@ -5,7 +5,7 @@ ghost use Rattle.vale_entry.specs.declared.entry.Ask.TheVariants as asks;
 ghost use Rattle.vale_entry.specs.declared.entry.Reply.TheVariants as replies;
 
 use crate::book::Book;
-use vale_port::open_port;
+use vale_port::offered_port;
 use vale_steps::granting::{Granted, count, give, lose};
 use vale_steps::offers::{Offers, take_next};
 
@@ -35,7 +35,7 @@ impl Book {
         let (want, room) = take_next(offers);
         let origin = offers.entry();
         let session = offers.session();
-        match open_port(&self.ports, want.to) {
+        match offered_port(&self.ports, want.to) {
             Some(place) => {
                 let granted = give(
                     &mut self.history,

@@ -1,7 +1,7 @@
-ghost use Rattle.std.specs.Prelude.{◌≡◌, ◌<◌, ◌-◌, length, All, Some, OnOk, OnErr, IfOk, IfErr};
-ghost use Rattle.vale_book.specs.Words.{AreOf, HasRoom, IsEnabled, IsRefusal, IsSingle, after_ask};
-ghost use Rattle.vale_book.specs.Words.{dests_wanted, indices_of, most_ring, read_ask, reply_to};
-ghost use Rattle.vale_book.specs.Words.{standing};
+ghost use Rattle.std.specs.Prelude.{◌≡◌, ◌<◌, ◌-◌, length, Some, OnOk, OnErr, IfOk, IfErr};
+ghost use Rattle.vale_book.specs.Words.{AreOf, HasRoom, IsCut, IsEnabled, IsRefusal, after_ask};
+ghost use Rattle.vale_book.specs.Words.{dests_wanted, frames_in, indices_of, most_ring, read_ask};
+ghost use Rattle.vale_book.specs.Words.{reply_to, standing};
 ghost use Rattle.vale_entry.specs.declared.entry.Ask.TheVariants as asks;
 ghost use Rattle.vale_entry.specs.declared.entry.Reply.TheVariants as replies;
 ghost use Rattle.vale_book.specs.Reading.{IsGiven, IsOffered, IsRead};
@@ -10,7 +10,7 @@ use crate::book::Book;
 use nm_region::Buf;
 use nm_types::{PortId, StepFault};
 use vale_port::open_port;
-use vale_steps::reading::{Synced, read, reading_at};
+use vale_steps::reading::{Synced, read, reading_at, sizes_for};
 
 impl Book {
     /// Buffers come back to the receive ring of a switch port or a monitor, and those of its frames
@@ -32,9 +32,10 @@ impl Book {
             (indices_of back.items))) }
         ensures said { IfOk result (λ synced. reply_to (standing self.old) (read_ask is_pipe port
             (indices_of back.items))
-            ≡ Some (replies.Gave (length synced.got.items) (dests_wanted synced.offers.wants))) }
+            ≡ Some (replies.Gave (length (frames_in synced.got.items))
+            (dests_wanted synced.offers.wants))) }
         ensures got { IfOk result (λ synced. IsGiven self.old port synced.got.items) }
-        ensures single { IfOk result (λ synced. All IsSingle synced.got.items) }
+        ensures cut { IfOk result (λ synced. IsCut synced.got.items) }
         ensures few { IfOk result (λ synced. length synced.got.items < most_ring) }
         ensures offers { IfOk result (λ synced.
             IsOffered self.old self.new port synced.offers) }
@@ -49,12 +50,16 @@ impl Book {
             unreachable!()
         };
         let reading = reading_at(&self.ports, &self.watches, port, place, is_pipe);
+        let Ok(sizes) = sizes_for(self.alloc, &self.ports, reading) else {
+            return Err((StepFault::NoMemory, back));
+        };
         read(
             self.alloc,
             &mut self.history,
             &mut self.ports,
             &mut self.tally,
             reading,
+            sizes,
             back,
         )
     }

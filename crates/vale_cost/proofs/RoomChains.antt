@@ -92,7 +92,7 @@ module _ (pool : ℕ) (past : List Entry) (k number : ℕ) (user : Machine) (bel
   of-head [] ask call = absurd cc
   of-head (Arrive ∷ rest) ask call = of-enter user.session ask call
   of-head (OpenPort name tx rx extra ∷ rest) ask call = mapped (λ (x : SessionId). Open x name tx rx extra) user.session ask Goal call (λ x e. of-side (Open x name tx rx extra) refl)
-  of-head (PutFrame name bytes ∷ rest) ask call = of-tx name ask (put-of user.own name ask call)
+  of-head (PutFrame name bytes ∷ rest) ask call = of-tx name ask (put-of user.own name bytes ask call)
   of-head (SendFrames name ∷ rest) ask call = of-tx name ask (send-of user.own name ask call)
   of-head (TakeFrames name ∷ rest) ask call = mapped (rx_call user.own) (port_with_name user.own name) ask Goal call
       (λ p named. of-side (rx_call user.own p) (receives-of None user.own p made.reply (by-id user.own name p below.tidy named)))

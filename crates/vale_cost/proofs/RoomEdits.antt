@@ -1,25 +1,29 @@
--- What a user writes on its own side makes no more frames wait than it puts.
+-- What a user writes on its own side makes no more wait than it puts.
 use Rattle.std.proofs.Common.{ℕ, zero, suc, ◌+◌, ◌<◌, ◌≤◌, ◌≡◌, Bool, true, false, cond, not, ◌&&◌, ◌==◌, nat_le, List, [], ◌∷◌, map, length, Option, Some, None, option_map, refl, sym, ◌∙◌, ap, ap₂, subst, arith, length-append}
-use Rattle.std.specs.Prelude.{option_and_then, is_none, find}
+use Rattle.std.specs.Prelude.{◌*◌, option_and_then, is_none, find}
+use Rattle.std.specs.Option.{option_map_or}
 use Rattle.std.specs.List.{AllByRecursion as Each}
 use Rattle.std.proofs.lemmas.Bool.{and_parts, leb-true, leb-false}
 use Rattle.nm_types.specs.declared.id.Side.{Side}
 use Rattle.nm_types.specs.declared.id.Side.TheVariants.{Tx}
 use Rattle.nm_types.specs.Positions.{RingState, IsRing, FitsRing, dist, step_on, is_user_slot, pending_slots, pushed_slots}
 use Rattle.nm_types.specs.Slots.{SlotState}
-use Rattle.nm_types.specs.SyncChecks.{ring_refusal, contains_index}
-use Rattle.nm_types.specs.OwnPorts.{OwnRing, OwnPort, OwnState, with_bytes, port_with_id, port_with_name, port_if, ring_on, slot_in, with_slot, named_of}
-use Rattle.nm_types.specs.OwnEdits.{SlotPlace, has_slot, with_all_back, ring_at_positions, slot_written, with_user_slot, with_written_slot, with_slot_field, user_slot_at, slot_of_place, slot_naming, with_two_slots, with_slots_swapped, with_slot_of_place, with_written, with_frame_on, with_frame, ring_with_frame, extra_number, with_head_of_chain, link_in, with_extra_link_in, with_extra_link}
+use Rattle.nm_types.specs.Limits.{buffer_bytes}
+use Rattle.nm_types.specs.Parts.{slots_of_bytes, parts_of}
+use Rattle.nm_types.specs.SyncChecks.{ring_refusal}
+use Rattle.nm_types.specs.OwnPorts.{OwnRing, OwnPort, OwnState, port_with_id, port_with_name, port_if, ring_on, ring_at, slot_in, with_slot}
+use Rattle.nm_types.specs.OwnEdits.{SlotPlace, has_slots, with_all_back, ring_at_positions, slot_written, with_user_slot, with_written_slot, with_slot_field, user_slot_at, slot_of_place, slot_naming, with_two_slots, with_slots_swapped, with_slot_of_place, with_written, with_part, with_part_on, with_parts, with_frame, ring_with_part, extra_number, with_head_of_chain, link_in, with_extra_link_in, with_extra_link}
 use Rattle.nm_types.specs.declared.slot.SlotWrite.{SlotWrite}
-use Rattle.nm_types.proofs.RingSteps.{length-slots_from, dist-below, dist-add}
+use Rattle.nm_types.proofs.PartLemmas.{length-parts}
+use Rattle.nm_types.proofs.RingSteps.{length-slots_from, dist-below, dist-add, step_on-below}
 use Rattle.vale_entry.proofs.Each.{each-find}
 use Rattle.vale_script.specs.declared.script.Act.{Act}
 use Rattle.vale_script.specs.declared.script.Act.TheVariants as acts
 use Rattle.vale_replay.specs.Edits.{change_found, at_port, poked, field_written, changed_by}
+use Rattle.vale_own.proofs.SideEditing.{ring-there, written-ports}
 use Rattle.vale_own.proofs.SideExchange.{ring-passes}
-use Rattle.vale_replay.proofs.PutRooms.{same-ports}
-use Rattle.vale_cost.specs.Completeness.{waiting_of, waiting, IsPlainAct}
-use Rattle.vale_cost.proofs.RoomViews.{View, AreTidy, IsRingIf, IsRingAt, ring_of, seen, views, weight, total, with_view, view_if, waiting-views, total-changed, each-id, ids-changed, find-seen, seen-tx, seen-rx, seen-still}
+use Rattle.vale_cost.specs.Completeness.{Cost, Sends, Bytes, Calls, Opens, one_if_some, cost_of_ring, slots_waiting, sends_waiting, waiting, IsPlainAct}
+use Rattle.vale_cost.proofs.RoomViews.{View, AreTidy, IsRingIf, IsRingAt, ring_of, seen, views, weight, total, with_view, view_if, waiting-views, total-changed, each-id, ids-changed, rings-all, find-seen, seen-tx, seen-rx, seen-still}
 
 -- ---- edits that leave the views
 
@@ -111,7 +115,7 @@ one-farther ring is inside = by (nat_le ring.size (dist ring.size ring.accepted_
         let same = dist-add ring.size ring.accepted_head ring.head 1 is.accepted inside room in
         omega (arith, same)
 
-one-more : (pipe : Bool) (ring : RingState) → IsRing ring → ring.head < ring.size → waiting_of pipe (stepped_ring ring) ≤ waiting_of pipe ring + 1
+one-more : (pipe : Bool) (ring : RingState) → IsRing ring → ring.head < ring.size → slots_waiting pipe (stepped_ring ring) ≤ slots_waiting pipe ring + 1
 one-more pipe ring is inside = by pipe
   where
     pushed : length (pushed_slots (stepped_ring ring) (stepped_ring ring).head) ≤ length (pushed_slots ring ring.head) + 1
@@ -121,49 +125,84 @@ one-more pipe ring is inside = by pipe
         let farther = one-farther ring is inside in
         omega (arith, new, old, farther)
 
-    by : (b : Bool) → waiting_of b (stepped_ring ring) ≤ waiting_of b ring + 1
+    by : (b : Bool) → slots_waiting b (stepped_ring ring) ≤ slots_waiting b ring + 1
     by true =
         let one = length-append (pending_slots ring) (pushed_slots (stepped_ring ring) (stepped_ring ring).head) in
         let other = length-append (pending_slots ring) (pushed_slots ring ring.head) in
         omega (arith, one, other, pushed)
     by false = pushed
 
--- what an edit makes of a side: it stays tidy, and so many frames more wait at most
-pub record IsEdit (s new : OwnState) (more : ℕ) : Type 0 where
+-- so many steps
+abbrev stepped_times : ℕ → RingState → RingState
+stepped_times zero ring = ring
+stepped_times (suc count) ring = stepped_times count (stepped_ring ring)
+
+stepped-is : (ring : RingState) → IsRing ring → IsRing (stepped_ring ring)
+stepped-is ring is = record { is_size = is.is_size; accepted = is.accepted; within = is.within; one_tail = is.one_tail }
+
+stepped-was : (ring : RingState) → IsRing (stepped_ring ring) → IsRing ring
+stepped-was ring is = record { is_size = is.is_size; accepted = is.accepted; within = is.within; one_tail = is.one_tail }
+
+times-is : (count : ℕ) (ring : RingState) → IsRing ring → IsRing (stepped_times count ring)
+times-is zero ring is = is
+times-is (suc count) ring is = times-is count (stepped_ring ring) (stepped-is ring is)
+
+times-was : (count : ℕ) (ring : RingState) → IsRing (stepped_times count ring) → IsRing ring
+times-was zero ring is = is
+times-was (suc count) ring is = stepped-was ring (times-was count (stepped_ring ring) is)
+
+slots-more : (count : ℕ) (pipe : Bool) (ring : RingState) → IsRing ring → ring.head < ring.size → slots_waiting pipe (stepped_times count ring) ≤ slots_waiting pipe ring + count
+slots-more zero pipe ring is inside = omega arith
+slots-more (suc count) pipe ring is inside =
+    let one = one-more pipe ring is inside in
+    let rest = slots-more count pipe (stepped_ring ring) (stepped-is ring is) (step_on-below ring.size ring.head 1 inside) in
+    omega (arith, one, rest)
+
+sends-most : (pipe : Bool) (ring : RingState) → sends_waiting pipe ring ≤ 1
+sends-most true ring = omega arith
+sends-most false ring = by (length (pushed_slots ring ring.head))
+  where
+    by : (n : ℕ) → one_if_some n ≤ 1
+    by zero = omega arith
+    by (suc n) = omega arith
+
+-- what a frame of so many slots adds to what waits
+abbrev pub added : Cost → ℕ → ℕ
+added Sends slots = 1
+added Bytes slots = buffer_bytes * slots
+added Calls slots = 0
+added (Opens switch) slots = 0
+
+cost-more : (c : Cost) (count : ℕ) (pipe : Bool) (ring : RingState) → IsRing ring → ring.head < ring.size → cost_of_ring c pipe (stepped_times count ring) ≤ cost_of_ring c pipe ring + added c count
+cost-more Sends count pipe ring is inside = let most = sends-most pipe (stepped_times count ring) in omega (arith, most)
+cost-more Bytes count pipe ring is inside = let more = slots-more count pipe ring is inside in omega (arith, more)
+cost-more Calls count pipe ring is inside = omega arith
+cost-more (Opens switch) count pipe ring is inside = omega arith
+
+-- what an edit makes of a side: it stays tidy, and so much more waits at most
+pub record IsEdit (s new : OwnState) (more : Cost → ℕ) : Type 0 where
   pub tidy : AreTidy (views s) → AreTidy (views new)
   pub back : AreTidy (views new) → AreTidy (views s)
-  pub less : AreTidy (views s) → waiting new ≤ waiting s + more
+  pub less : (c : Cost) → AreTidy (views s) → waiting c new ≤ waiting c s + more c
   pub ids : (k : ℕ) → Each (λ (v : View). v.id ≤ k) (views s) → Each (λ (v : View). v.id ≤ k) (views new)
 
-pub still-edit : (s new : OwnState) (more : ℕ) → views new ≡ views s → IsEdit s new more
+pub still-edit : (s new : OwnState) (more : Cost → ℕ) → views new ≡ views s → IsEdit s new more
 still-edit s new more same = record {
   tidy = λ tidy. subst AreTidy (sym same) tidy;
   back = λ tidy. subst AreTidy same tidy;
-  less = λ tidy. let one = waiting-views new in let other = waiting-views s in let e = ap total same in omega (arith, one, other, e);
+  less = λ c tidy. let one = waiting-views c new in let other = waiting-views c s in let e = ap (total c) same in omega (arith, one, other, e);
   ids = λ k all. subst (Each (λ (v : View). v.id ≤ k)) (sym same) all;
 }
 
-rings-stepped : (id : ℕ) (vs : List View) → Each IsRingAt vs → Each IsRingAt (map (view_if id stepped_ring) vs)
-rings-stepped id [] all = tt
-rings-stepped id (v ∷ vs) all = (by (v.id == id) v.ring all.0, rings-stepped id vs all.1)
+rings-before : (id count : ℕ) (vs : List View) → Each IsRingAt (map (view_if id (stepped_times count)) vs) → Each IsRingAt vs
+rings-before id count [] all = tt
+rings-before id count (v ∷ vs) all = (by (v.id == id) all.0, rings-before id count vs all.1)
   where
-    ring-of : (ring : Option RingState) → IsRingIf ring → IsRingIf (option_map stepped_ring ring)
+    ring-of : (ring : Option RingState) → IsRingIf (option_map (stepped_times count) ring) → IsRingIf ring
     ring-of None is = tt
-    ring-of (Some r) is = record { is_size = is.is_size; accepted = is.accepted; within = is.within; one_tail = is.one_tail }
+    ring-of (Some r) is = times-was count r is
 
-    by : (b : Bool) (ring : Option RingState) → IsRingIf v.ring → IsRingAt (cond b (with_view stepped_ring v) v)
-    by true ring is = ring-of v.ring is
-    by false ring is = is
-
-rings-before : (id : ℕ) (vs : List View) → Each IsRingAt (map (view_if id stepped_ring) vs) → Each IsRingAt vs
-rings-before id [] all = tt
-rings-before id (v ∷ vs) all = (by (v.id == id) all.0, rings-before id vs all.1)
-  where
-    ring-of : (ring : Option RingState) → IsRingIf (option_map stepped_ring ring) → IsRingIf ring
-    ring-of None is = tt
-    ring-of (Some r) is = record { is_size = is.is_size; accepted = is.accepted; within = is.within; one_tail = is.one_tail }
-
-    by : (b : Bool) → IsRingAt (cond b (with_view stepped_ring v) v) → IsRingIf v.ring
+    by : (b : Bool) → IsRingAt (cond b (with_view (stepped_times count) v) v) → IsRingIf v.ring
     by true is = ring-of v.ring is
     by false is = is
 
@@ -171,58 +210,107 @@ some-none : {X : Type 0} (o : Option X) → is_none o ≡ true → o ≡ None
 some-none None e = refl
 some-none (Some x) e = absurd cc
 
-weight-stepped : (v : View) → IsRingAt v → ((ring : RingState) → v.ring ≡ Some ring → ring.head < ring.size) → weight (with_view stepped_ring v) ≤ weight v + 1
-weight-stepped v is inside = by v.ring refl is
+weight-stepped : (c : Cost) (count : ℕ) (v : View) → IsRingAt v → ((ring : RingState) → v.ring ≡ Some ring → ring.head < ring.size)
+    → weight c (with_view (stepped_times count) v) ≤ weight c v + added c count
+weight-stepped c count v is inside = by v.ring refl is
   where
-    by : (ring : Option RingState) → v.ring ≡ ring → IsRingIf ring → weight (with_view stepped_ring (record { id = v.id; pipe = v.pipe; ring = ring })) ≤ weight (record { id = v.id; pipe = v.pipe; ring = ring }) + 1
+    by : (ring : Option RingState) → v.ring ≡ ring → IsRingIf ring
+        → weight c (with_view (stepped_times count) (record { id = v.id; pipe = v.pipe; ring = ring })) ≤ weight c (record { id = v.id; pipe = v.pipe; ring = ring }) + added c count
     by None e is' = omega arith
-    by (Some ring) e is' = one-more v.pipe ring is' (inside ring e)
+    by (Some ring) e is' = cost-more c count v.pipe ring is' (inside ring e)
 
 find-ring : (id : ℕ) (vs : List View) (v : View) → Each IsRingAt vs → find (λ (w : View). w.id == id) vs ≡ Some v → IsRingAt v
 find-ring id vs v all e = each-find IsRingAt (λ (w : View). w.id == id) vs v all e
 
-frame-put : (id : ℕ) (bytes : List ℕ) (s : OwnState) (new : OwnState) (p : OwnPort) (r : OwnRing) → port_with_id s id ≡ Some p → p.tx ≡ Some r → has_slot r ≡ true
-    → views new ≡ map (view_if id stepped_ring) (views s) → IsEdit s new 1
-frame-put id bytes s new p r found has slot same = record {
-  tidy = λ tidy. subst AreTidy (sym same) (record { apart = rw (ids-changed id stepped_ring (views s)) tidy.apart; rings = rings-stepped id (views s) tidy.rings });
+frame-put : (id count : ℕ) (s : OwnState) (new : OwnState) (p : OwnPort) (r : OwnRing) → port_with_id s id ≡ Some p → p.tx ≡ Some r → r.ring.head < r.ring.size
+    → views new ≡ map (view_if id (stepped_times count)) (views s) → IsEdit s new (λ c. added c count)
+frame-put id count s new p r found has within same = record {
+  tidy = λ tidy. subst AreTidy (sym same) (record { apart = rw (ids-changed id (stepped_times count) (views s)) tidy.apart; rings = rings-all id (stepped_times count) (times-is count) (views s) tidy.rings });
   back = λ tidy.
       let t = subst AreTidy same tidy in
-      record { apart = rw (← ids-changed id stepped_ring (views s)) t.apart; rings = rings-before id (views s) t.rings };
-  less = λ tidy.
+      record { apart = rw (← ids-changed id (stepped_times count) (views s)) t.apart; rings = rings-before id count (views s) t.rings };
+  less = λ c tidy.
       let there = find-seen id s.ports p found in
-      let change = total-changed id stepped_ring (views s) (seen p) tidy.apart there in
-      let more = weight-stepped (seen p) (find-ring id (views s) (seen p) tidy.rings there) inside in
-      let after = waiting-views new ∙ ap total same in
-      let before = waiting-views s in
+      let change = total-changed id (stepped_times count) c (views s) (seen p) tidy.apart there in
+      let more = weight-stepped c count (seen p) (find-ring id (views s) (seen p) tidy.rings there) inside in
+      let after = waiting-views c new ∙ ap (total c) same in
+      let before = waiting-views c s in
       omega (arith, change, more, after, before);
-  ids = λ k all. subst (Each (λ (v : View). v.id ≤ k)) (sym same) (each-id id stepped_ring k (views s) all);
+  ids = λ k all. subst (Each (λ (v : View). v.id ≤ k)) (sym same) (each-id id (stepped_times count) k (views s) all);
 }
   where
-    fits : FitsRing r.ring r.ring.head r.ring.cur
-    fits = ring-passes r.ring (some-none (ring_refusal r.ring r.ring.head r.ring.cur) (and_parts (is_none (ring_refusal r.ring r.ring.head r.ring.cur)) (not (r.ring.head == r.ring.tail)) slot).0)
-
     inside : (ring : RingState) → (seen p).ring ≡ Some ring → ring.head < ring.size
     inside ring e =
         let is : Some r.ring ≡ Some ring = sym (ap (option_map ring_of) has) ∙ e in
         let one : r.ring ≡ ring = cc in
-        subst (λ (x : RingState). x.head < x.size) one fits.head_within
+        subst (λ (x : RingState). x.head < x.size) one within
 
-pub frame-edit : (id : ℕ) (bytes : List ℕ) (s : OwnState) → IsEdit s (with_frame id bytes s) 1
+-- ---- part by part
+
+views-twice : (id : ℕ) (f g : RingState → RingState) (vs : List View) → map (view_if id g) (map (view_if id f) vs) ≡ map (view_if id (λ ring. g (f ring))) vs
+views-twice id f g [] = refl
+views-twice id f g (v ∷ vs) = ap₂ (λ (w : View) (ws : List View). w ∷ ws) (by (v.id == id) refl v.ring refl) (views-twice id f g vs)
+  where
+    by : (b : Bool) → (v.id == id) ≡ b → (ring : Option RingState) → v.ring ≡ ring → view_if id g (cond b (with_view f v) v) ≡ cond b (with_view (λ ring. g (f ring)) v) v
+    by true is None has = rw (is, has) refl
+    by true is (Some r) has = rw (is, has) refl
+    by false is ring has = rw is refl
+
+-- a part is put where there is a ring, and the ring is one step farther
+part-views : (id : ℕ) (more : Bool) (part : List ℕ) (s : OwnState) (r : OwnRing) → ring_at Tx s id ≡ Some r → views (with_part id more part s) ≡ map (view_if id stepped_ring) (views s)
+part-views id more part s r at =
+    let t = with_written (slot_in Tx r r.ring.head).buf_idx part s in
+    ap (λ (o : Option OwnRing). views (with_part_on id more part s o)) at
+    ∙ (seen-tx id (ring_with_part more part) stepped_ring (λ x. refl) t.ports
+    ∙ ap (λ (ports : List OwnPort). map (view_if id stepped_ring) (map seen ports)) (written-ports (slot_in Tx r r.ring.head).buf_idx part s))
+
+-- and the ring is there still
+part-there : (id : ℕ) (more : Bool) (part : List ℕ) (s : OwnState) (r : OwnRing) → ring_at Tx s id ≡ Some r → ring_at Tx (with_part id more part s) id ≡ Some (ring_with_part more part r)
+part-there id more part s r at =
+    let idx = (slot_in Tx r r.ring.head).buf_idx in
+    let t = with_written idx part s in
+    let there : ring_at Tx t id ≡ Some r = ap (λ (ports : List OwnPort). option_and_then (ring_on Tx) (find (λ (p : OwnPort). p.id.0 == id) ports)) (written-ports idx part s) ∙ at in
+    ap (λ (o : Option OwnRing). ring_at Tx (with_part_on id more part s o) id) at ∙ ring-there id (ring_with_part more part) t r there
+
+parts-views : (id : ℕ) (parts : List (List ℕ)) (s : OwnState) (r : OwnRing) → ring_at Tx s id ≡ Some r → views (with_parts id parts s) ≡ map (view_if id (stepped_times (length parts))) (views s)
+parts-views id [] s r at = sym (views-same id (views s))
+  where
+    views-same : (id : ℕ) (vs : List View) → map (view_if id (stepped_times 0)) vs ≡ vs
+    views-same id [] = refl
+    views-same id (v ∷ vs) = ap₂ (λ (w : View) (ws : List View). w ∷ ws) (by (v.id == id) v.ring refl) (views-same id vs)
+      where
+        by : (b : Bool) (ring : Option RingState) → v.ring ≡ ring → cond b (with_view (stepped_times 0) v) v ≡ v
+        by true None has = ap (λ (o : Option RingState). record { id = v.id; pipe = v.pipe; ring = option_map (stepped_times 0) o }) has ∙ ap (λ (o : Option RingState). record { id = v.id; pipe = v.pipe; ring = o }) (sym has)
+        by true (Some x) has = ap (λ (o : Option RingState). record { id = v.id; pipe = v.pipe; ring = option_map (stepped_times 0) o }) has ∙ ap (λ (o : Option RingState). record { id = v.id; pipe = v.pipe; ring = o }) (sym has)
+        by false ring has = refl
+parts-views id (part ∷ parts) s r at =
+    let more = not (length parts == 0) in
+    parts-views id parts (with_part id more part s) (ring_with_part more part r) (part-there id more part s r at)
+    ∙ (ap (map (view_if id (stepped_times (length parts)))) (part-views id more part s r at)
+    ∙ views-twice id stepped_ring (stepped_times (length parts)) (views s))
+
+pub frame-edit : (id : ℕ) (bytes : List ℕ) (s : OwnState) → IsEdit s (with_frame id bytes s) (λ c. added c (slots_of_bytes bytes))
 frame-edit id bytes s = by-port (port_with_id s id) refl
   where
-    by-slot : (p : OwnPort) (r : OwnRing) (b : Bool) → port_with_id s id ≡ Some p → p.tx ≡ Some r → has_slot r ≡ b → IsEdit s (with_frame_on id bytes s (Some r)) 1
-    by-slot p r false found has slot = rw slot (still-edit s s 1 refl)
-    by-slot p r true found has slot =
-        rw slot
-        (frame-put id bytes s _ p r found has slot
-        (seen-tx id (ring_with_frame bytes) stepped_ring (λ x. refl) (with_written (slot_in Tx r r.ring.head).buf_idx bytes s).ports
-        ∙ ap (λ (ports : List OwnPort). map (view_if id stepped_ring) (map seen ports))
-        (same-ports (contains_index (named_of s) (slot_in Tx r r.ring.head).buf_idx) (with_bytes (slot_in Tx r r.ring.head).buf_idx _ s) s refl)))
+    n : ℕ
+    n = slots_of_bytes bytes
 
-    by-ring : (p : OwnPort) (tx : Option OwnRing) → port_with_id s id ≡ Some p → p.tx ≡ tx → IsEdit s (with_frame_on id bytes s tx) 1
-    by-ring p None found has = still-edit s s 1 refl
-    by-ring p (Some r) found has = by-slot p r (has_slot r) found has refl
+    by-room : (p : OwnPort) (r : OwnRing) (b : Bool) → port_with_id s id ≡ Some p → p.tx ≡ Some r → has_slots n r ≡ b
+        → IsEdit s (cond b (with_parts id (parts_of bytes) s) s) (λ c. added c n)
+    by-room p r false found has room = still-edit s s (λ c. added c n) refl
+    by-room p r true found has room =
+        let at : ring_at Tx s id ≡ Some r = ap (option_and_then (ring_on Tx)) found ∙ has in
+        let fits : FitsRing r.ring r.ring.head r.ring.cur = ring-passes r.ring (some-none (ring_refusal r.ring r.ring.head r.ring.cur) (and_parts (is_none (ring_refusal r.ring r.ring.head r.ring.cur)) (nat_le n (dist r.ring.size r.ring.head r.ring.tail)) room).0) in
+        let count : length (parts_of bytes) ≡ n = length-parts n bytes in
+        frame-put id n s (with_parts id (parts_of bytes) s) p r found has fits.head_within
+        (parts-views id (parts_of bytes) s r at ∙ ap (λ (k : ℕ). map (view_if id (stepped_times k)) (views s)) count)
 
-    by-port : (found : Option OwnPort) → port_with_id s id ≡ found → IsEdit s (with_frame_on id bytes s (option_and_then (ring_on Tx) found)) 1
-    by-port None e = still-edit s s 1 refl
+    by-ring : (p : OwnPort) (tx : Option OwnRing) → port_with_id s id ≡ Some p → p.tx ≡ tx
+        → IsEdit s (cond (option_map_or (has_slots n) tx false) (with_parts id (parts_of bytes) s) s) (λ c. added c n)
+    by-ring p None found has = still-edit s s (λ c. added c n) refl
+    by-ring p (Some r) found has = by-room p r (has_slots n r) found has refl
+
+    by-port : (found : Option OwnPort) → port_with_id s id ≡ found
+        → IsEdit s (cond (option_map_or (has_slots n) (option_and_then (ring_on Tx) found) false) (with_parts id (parts_of bytes) s) s) (λ c. added c n)
+    by-port None e = still-edit s s (λ c. added c n) refl
     by-port (Some p) e = by-ring p p.tx e refl

@@ -11,19 +11,23 @@ use Rattle.vale_script.specs.declared.script.Line.{Line}
 use Rattle.vale_script.specs.declared.script.Unit.{Unit as ReadUnit}
 use Rattle.vale_script.specs.declared.script.Unit.TheVariants as parts
 use Rattle.vale_script.specs.Script.{Program}
+use Rattle.vale_script.specs.Sound.{IsSoundAct, IsSoundLine, IsSoundUnit}
 use Rattle.vale_captures.specs.Counting.{count_of, frames_by}
 use Rattle.vale_captures.specs.Inputs.{InputFile, name_of, frames_of, records_in}
 use Rattle.vale_captures.proofs.FewLines.{few-acts}
+use Rattle.nm_types.specs.Limits.{most_switch_ports}
+use Rattle.nm_types.specs.declared.limits.Limits.{Limits}
 use Rattle.nm_types.specs.OwnPorts.{OwnPort}
 use Rattle.nm_types.proofs.Lists.{each-joined, each-front, each-back}
-use Rattle.vale_replay.specs.Tasks.{Task, Depart, records_of, tasks_of_line, tasks_of_lines}
+use Rattle.vale_replay.specs.Tasks.{Task, Depart, fits_to_play, records_of, tasks_of_line, tasks_of_lines}
 use Rattle.vale_replay.specs.Machine.{new_machine, closing_of, closing_tasks}
 use Rattle.vale_replay.specs.Replay.{UnitShare, ScriptUnit, share_of, shares_of, act_of, acts_of, has_line, is_of_user, closing_unit, units_of, user_count}
 use Rattle.vale_replay.specs.Saved.{acts_of_unit}
-use Rattle.vale_cost.specs.Completeness.{frames_of_task, calls_of_task, frames_of_units, calls_of_units, frames_put, IsPlainAct, IsPlainTask, IsCosted, LineCosts}
-use Rattle.vale_cost.specs.FewFrames.{LightScriptsFit}
+use Rattle.vale_cost.specs.Completeness.{Cost, Sends, Bytes, Calls, Opens, cost_of_task, cost_of_units, frames_put, bytes_put, opens_by, IsPlainAct, IsPlainTask, IsCosted, LineCosts, TasksFit}
+use Rattle.vale_cost.specs.FewFrames.{bytes_by, frames_put_in, bytes_put_in, opens_of, most_light_frames, most_narrow_frames, most_narrow_ports, LightScriptsFit}
+use Rattle.vale_cost.proofs.RoomHistories.{times-less}
 use Rattle.vale_captures.proofs.Names.{records-same}
-use Rattle.vale_cost.proofs.RoomRests.{frames_in, calls_in, ArePlain}
+use Rattle.vale_cost.proofs.RoomRests.{cost_in, ArePlain}
 use Rattle.vale_cost.proofs.RoomCosts.{lines-cost}
 use Rattle.vale_entry.proofs.Removals.{sum-filter_less}
 
@@ -198,8 +202,7 @@ lines-plain records (act ∷ some) plain =
 
 line-share : (records : List ℕ → List (List ℕ)) (user : ℕ) (some : List Act) → Each IsPlainAct some → IsCosted (share_of records user some)
 line-share records user some plain = record {
-  frames = λ m. same-less (frames_in (tasks_of_lines records some));
-  calls = λ m. same-less (calls_in (tasks_of_lines records some));
+  costs = λ c m. same-less (cost_in c (tasks_of_lines records some));
   plain = λ m. lines-plain records some plain;
 }
 
@@ -225,25 +228,41 @@ units-costed records users (unit ∷ units) plain = (
 )
 
 record IsFree (tasks : List Task) : Type 0 where
-  frames_are : frames_in tasks ≡ 0
-  calls_are : calls_in tasks ≡ 0
+  costs : (c : Cost) → cost_in c tasks ≡ 0
   are_plain : ArePlain tasks
 
+depart-free : (c : Cost) → cost_of_task c Depart ≡ 0
+depart-free Sends = refl
+depart-free Bytes = refl
+depart-free Calls = refl
+depart-free (Opens switch) = refl
+
+closing-none : (c : Cost) (p : OwnPort) → cost_in c (closing_of p) ≡ 0
+closing-none Sends p = refl
+closing-none Bytes p = refl
+closing-none Calls p = refl
+closing-none (Opens switch) p = refl
+
 closing-free : (ports : List OwnPort) → IsFree (flat_map closing_of ports ++ Depart ∷ [])
-closing-free [] = record { frames_are = refl; calls_are = refl; are_plain = (tt, tt) }
+closing-free [] = record {
+  costs = λ c. (let one = sum_by-cons (cost_of_task c) Depart [] in let none = depart-free c in omega (arith, one, none));
+  are_plain = (tt, tt);
+}
 closing-free (p ∷ ports) =
     let rest = closing-free ports in
-    let f : frames_in (flat_map closing_of (p ∷ ports) ++ Depart ∷ []) ≡ 0 + frames_in (flat_map closing_of ports ++ Depart ∷ []) = sum_by-append frames_of_task (closing_of p) (flat_map closing_of ports ++ Depart ∷ []) in
-    let k : calls_in (flat_map closing_of (p ∷ ports) ++ Depart ∷ []) ≡ 0 + calls_in (flat_map closing_of ports ++ Depart ∷ []) = sum_by-append calls_of_task (closing_of p) (flat_map closing_of ports ++ Depart ∷ []) in
-    let none_f = rest.frames_are in
-    let none_k = rest.calls_are in
-    record { frames_are = omega (arith, f, none_f); calls_are = omega (arith, k, none_k); are_plain = (tt, (tt, rest.are_plain)) }
+    record {
+      costs = λ c.
+          (let both = sum_by-append (cost_of_task c) (closing_of p) (flat_map closing_of ports ++ Depart ∷ []) in
+          let none = closing-none c p in
+          let others = rest.costs c in
+          omega (arith, both, none, others));
+      are_plain = (tt, (tt, rest.are_plain));
+    }
 
 pub closing-costed : (user : ℕ) → Each IsCosted (closing_unit user)
 closing-costed user = (
   record {
-    frames = λ m. none-less (frames_in (closing_tasks m)) (frames_in (closing_tasks (new_machine 0 0))) (closing-free m.own.ports).frames_are;
-    calls = λ m. none-less (calls_in (closing_tasks m)) (calls_in (closing_tasks (new_machine 0 0))) (closing-free m.own.ports).calls_are;
+    costs = λ c m. none-less (cost_in c (closing_tasks m)) (cost_in c (closing_tasks (new_machine 0 0))) ((closing-free m.own.ports).costs c);
     plain = λ m. (closing-free m.own.ports).are_plain;
   },
   tt,
@@ -251,80 +270,168 @@ closing-costed user = (
 
 -- ---- what one line costs by the frames that are counted of it
 
+abbrev counted : List InputFile → Act → ℕ
+counted played act = count_of act + frames_by played act
+
+-- the frame of a `hex` line fits a buffer
+abbrev pub HexIsShort : Act → Type 0
+HexIsShort (acts.Hex name frame) = length frame.bytes ≤ 2048
+HexIsShort _ = Unit {0}
+
 record IsFew (records : List ℕ → List (List ℕ)) (played : List InputFile) (act : Act) : Type 0 where
-  frames : frames_in (tasks_of_line records act) ≤ count_of act + frames_by played act + 1
-  room : 34 * frames_in (tasks_of_line records act) + calls_in (tasks_of_line records act) ≤ 40 * (count_of act + frames_by played act) + 37
+  sends : cost_in Sends (tasks_of_line records act) ≤ counted played act + 1
+  bytes : cost_in Bytes (tasks_of_line records act) ≤ bytes_by played act + 2048 * (counted played act + 2)
+  calls : cost_in Calls (tasks_of_line records act) ≤ 6 * counted played act + 3
 
-line-few : (records : List ℕ → List (List ℕ)) (played : List InputFile) (act : Act) → frames_put records act ≤ count_of act + frames_by played act → IsFew records played act
-line-few records played act put =
+line-few : (records : List ℕ → List (List ℕ)) (played : List InputFile) (act : Act) → frames_put records act ≤ counted played act → bytes_put records act ≡ bytes_by played act → IsFew records played act
+line-few records played act put short =
     let line : LineCosts records act = lines-cost records act in
-    let f = line.frames in
-    let k = line.calls in
-    record { frames = omega (arith, f, put); room = omega (arith, f, k, put) }
+    record { sends = omega (arith, line.sends, put); bytes = omega (arith, line.bytes, put, short); calls = omega (arith, line.calls, put) }
 
-acts-few : (records : List ℕ → List (List ℕ)) (played : List InputFile) → ((file : List ℕ) → length (records file) ≡ length (records_in played file)) → (act : Act) → IsFew records played act
-acts-few records played same acts.Enter = line-few records played acts.Enter (omega arith)
-acts-few records played same (acts.Open name tx rx extra) = line-few records played (acts.Open name tx rx extra) (omega arith)
-acts-few records played same (acts.Put name count to from len fill) = line-few records played (acts.Put name count to from len fill) (omega arith)
-acts-few records played same (acts.Hex name frame) = record { frames = omega arith; room = omega arith }
-acts-few records played same (acts.Play name file batch) = let all = same file in line-few records played (acts.Play name file batch) (omega (arith, all))
-acts-few records played same (acts.Tx name) = line-few records played (acts.Tx name) (omega arith)
-acts-few records played same (acts.Rx name keep) = line-few records played (acts.Rx name keep) (omega arith)
-acts-few records played same (acts.Fwd from to count) = line-few records played (acts.Fwd from to count) (omega arith)
-acts-few records played same (acts.Poke name side slot field value) = line-few records played (acts.Poke name side slot field value) (omega arith)
-acts-few records played same (acts.Move name side head cur) = line-few records played (acts.Move name side head cur) (omega arith)
-acts-few records played same (acts.Swap name side slot other other_side other_slot quiet) = line-few records played (acts.Swap name side slot other other_side other_slot quiet) (omega arith)
-acts-few records played same (acts.Extra name i j) = line-few records played (acts.Extra name i j) (omega arith)
-acts-few records played same (acts.Watch monitor target sides) = line-few records played (acts.Watch monitor target sides) (omega arith)
-acts-few records played same (acts.Stat name) = line-few records played (acts.Stat name) (omega arith)
-acts-few records played same (acts.Save name file) = line-few records played (acts.Save name file) (omega arith)
-acts-few records played same (acts.Close name) = line-few records played (acts.Close name) (omega arith)
+acts-few : (records : List ℕ → List (List ℕ)) (played : List InputFile) → ((file : List ℕ) → records file ≡ records_in played file) → (act : Act) → HexIsShort act → IsFew records played act
+acts-few records played same acts.Enter short = line-few records played acts.Enter (omega arith) refl
+acts-few records played same (acts.Open name tx rx extra) short = line-few records played (acts.Open name tx rx extra) (omega arith) refl
+acts-few records played same (acts.Put name count to from len fill) short = line-few records played (acts.Put name count to from len fill) (omega arith) refl
+acts-few records played same (acts.Hex name frame) short =
+    let line : LineCosts records (acts.Hex name frame) = lines-cost records (acts.Hex name frame) in
+    record { sends = omega (arith, line.sends); bytes = omega (arith, line.bytes, short); calls = omega arith }
+acts-few records played same (acts.Play name file batch) short =
+    let all = ap length (same file) in
+    line-few records played (acts.Play name file batch) (omega (arith, all)) (ap (λ (frames : List (List ℕ)). sum_by length (filter (fits_to_play name) frames)) (same file))
+acts-few records played same (acts.Tx name) short = line-few records played (acts.Tx name) (omega arith) refl
+acts-few records played same (acts.Rx name keep) short = line-few records played (acts.Rx name keep) (omega arith) refl
+acts-few records played same (acts.Fwd from to count) short = line-few records played (acts.Fwd from to count) (omega arith) refl
+acts-few records played same (acts.Poke name side slot field value) short = line-few records played (acts.Poke name side slot field value) (omega arith) refl
+acts-few records played same (acts.Move name side head cur) short = line-few records played (acts.Move name side head cur) (omega arith) refl
+acts-few records played same (acts.Swap name side slot other other_side other_slot quiet) short = line-few records played (acts.Swap name side slot other other_side other_slot quiet) (omega arith) refl
+acts-few records played same (acts.Extra name i j) short = line-few records played (acts.Extra name i j) (omega arith) refl
+acts-few records played same (acts.Watch monitor target sides) short = line-few records played (acts.Watch monitor target sides) (omega arith) refl
+acts-few records played same (acts.Stat name) short = line-few records played (acts.Stat name) (omega arith) refl
+acts-few records played same (acts.Save name file) short = line-few records played (acts.Save name file) (omega arith) refl
+acts-few records played same (acts.Close name) short = line-few records played (acts.Close name) (omega arith) refl
 
-record AreFew (records : List ℕ → List (List ℕ)) (played : List InputFile) (some : List Act) : Type 0 where
-  frames : sum_by (of_act frames_of_task records) some ≤ sum_by count_of some + sum_by (frames_by played) some + length some
-  room : 34 * sum_by (of_act frames_of_task records) some + sum_by (of_act calls_of_task records) some
-      ≤ 40 * (sum_by count_of some + sum_by (frames_by played) some) + 37 * length some
+record AreFew (records : List ℕ → List (List ℕ)) (played : List InputFile) (some : List Act) (frames : ℕ) : Type 0 where
+  sends : sum_by (of_act (cost_of_task Sends) records) some ≤ frames + length some
+  bytes : sum_by (of_act (cost_of_task Bytes) records) some ≤ sum_by (bytes_by played) some + 2048 * (frames + 2 * length some)
+  calls : sum_by (of_act (cost_of_task Calls) records) some ≤ 6 * frames + 3 * length some
 
-all-few : (records : List ℕ → List (List ℕ)) (played : List InputFile) → ((act : Act) → IsFew records played act) → (some : List Act) → AreFew records played some
-all-few records played each [] = record { frames = omega arith; room = omega arith }
-all-few records played each (act ∷ some) =
-    let rest = all-few records played each some in
-    let here = each act in
-    let rest-frames = rest.frames in
-    let rest-room = rest.room in
-    let frames = here.frames in
-    let room = here.room in
-    let f = sum_by-cons (of_act frames_of_task records) act some in
-    let k = sum_by-cons (of_act calls_of_task records) act some in
+all-few : (records : List ℕ → List (List ℕ)) (played : List InputFile) → ((file : List ℕ) → records file ≡ records_in played file) → (some : List Act) → Each HexIsShort some
+    → AreFew records played some (sum_by count_of some + sum_by (frames_by played) some)
+all-few records played same [] short = record { sends = omega arith; bytes = omega arith; calls = omega arith }
+all-few records played same (act ∷ some) short =
+    let rest = all-few records played same some short.1 in
+    let here = acts-few records played same act short.0 in
+    let s = sum_by-cons (of_act (cost_of_task Sends) records) act some in
+    let b = sum_by-cons (of_act (cost_of_task Bytes) records) act some in
+    let k = sum_by-cons (of_act (cost_of_task Calls) records) act some in
+    let y = sum_by-cons (bytes_by played) act some in
     let c = sum_by-cons count_of act some in
     let p = sum_by-cons (frames_by played) act some in
-    record { frames = omega (arith, rest-frames, frames, f, c, p); room = omega (arith, rest-room, room, f, k, c, p) }
+    record {
+      sends = omega (arith, rest.sends, here.sends, s, c, p);
+      bytes = omega (arith, rest.bytes, here.bytes, b, y, c, p);
+      calls = omega (arith, rest.calls, here.calls, k, c, p);
+    }
+
+all-opened : (records : List ℕ → List (List ℕ)) (switch : List ℕ) (some : List Act) → sum_by (of_act (cost_of_task (Opens switch)) records) some ≤ sum_by (opens_by switch) some
+all-opened records switch [] = omega arith
+all-opened records switch (act ∷ some) =
+    let rest = all-opened records switch some in
+    let line : LineCosts records act = lines-cost records act in
+    let here = line.opens switch in
+    let one = sum_by-cons (of_act (cost_of_task (Opens switch)) records) act some in
+    let other = sum_by-cons (opens_by switch) act some in
+    omega (arith, rest, here, one, other)
 
 -- ---- a script
 
 found-same : (program : Program) (played : List InputFile) → map name_of played ≡ program.files → (file : List ℕ)
-    → length (records_of program.files (map frames_of played) file) ≡ length (records_in played file)
+    → records_of program.files (map frames_of played) file ≡ records_in played file
 found-same program played names file =
-    ap length (ap (λ (ns : List (List ℕ)). records_of ns (map frames_of played) file) (sym names) ∙ sym (records-same played file))
+    ap (λ (ns : List (List ℕ)). records_of ns (map frames_of played) file) (sym names) ∙ sym (records-same played file)
+
+-- The tasks of a script are few for limits that have room for its frames, with so many ports on each switch:
+-- each frame, and each line, costs a Send at most.
+pub tasks-fit : (program : Program) (played : List InputFile) (limits : Limits) (most frames lines bytes : ℕ) → map name_of played ≡ program.files
+    → Each IsPlainAct (flat_map acts_of_unit program.units) → Each HexIsShort (flat_map acts_of_unit program.units) → (most_switch_ports ≤ most) ⊎ ((switch : List ℕ) → opens_of switch program ≤ most)
+    → frames_put_in program played ≤ frames → length (flat_map acts_of_unit program.units) ≤ lines → bytes_put_in program played ≤ bytes
+    → 2 * most * (frames + lines) + (6 * frames + 3 * lines) ≤ limits.entries → bytes + 2048 * (frames + 2 * lines) ≤ limits.bytes
+    → TasksFit program (map frames_of played) limits
+tasks-fit program played limits most frames lines bytes names plain short few few-frames few-lines few-bytes entries-fit bytes-fit = record {
+  most = most;
+  few = opened few;
+  costed = each-joined (Each IsCosted) (map (shares_of records (user_count program)) program.units) (map closing_unit (range_with_len 1 (user_count program)))
+      (units-costed records (user_count program) program.units plain)
+      (each-mapped (Each IsCosted) closing_unit (range_with_len 1 (user_count program)) closing-costed);
+  entries =
+      let sends : cost_of_units Sends units ≤ frames + lines = (let sum = costs Sends in omega (arith, all.sends, sum, few-frames, few-lines)) in
+      let product = times-less (2 * most) (cost_of_units Sends units) (frames + lines) sends in
+      let calls = costs Calls in
+      omega (arith, product, entries-fit, all.calls, calls, few-frames, few-lines);
+  bytes = let sum = costs Bytes in omega (arith, all.bytes, sum, few-bytes, few-frames, few-lines, bytes-fit);
+}
+  where
+    records : List ℕ → List (List ℕ)
+    records = records_of program.files (map frames_of played)
+
+    units : List ScriptUnit
+    units = units_of program (map frames_of played)
+
+    some : List Act
+    some = flat_map acts_of_unit program.units
+
+    all : AreFew records played some (frames_put_in program played)
+    all = all-few records played (found-same program played names) some short
+
+    costs : (c : Cost) → cost_of_units c units ≤ sum_by (of_act (cost_of_task c) records) some
+    costs c = script-sum (cost_of_task c) records (depart-free c) (user_count program) program.units
+
+    opened : (most_switch_ports ≤ most) ⊎ ((switch : List ℕ) → opens_of switch program ≤ most) → (most_switch_ports ≤ most) ⊎ ((switch : List ℕ) → cost_of_units (Opens switch) units ≤ most)
+    opened (inl large) = inl large
+    opened (inr opens) = inr (λ switch.
+        (let sum = costs (Opens switch) in
+        let lines_open = all-opened records switch some in
+        let less = opens switch in
+        omega (arith, sum, lines_open, less)))
+
+-- the `hex` lines of a sound script
+
+act-short : (act : Act) → IsSoundAct act → HexIsShort act
+act-short (acts.Hex name frame) sound = sound.1.fits
+act-short _ sound = tt
+
+lines-short : (users : ℕ) (ls : List Line) → Each (IsSoundLine users) ls → Each HexIsShort (map act_of ls)
+lines-short users [] sound = tt
+lines-short users (line ∷ ls) sound = (act-short line.act sound.0.act, lines-short users ls sound.1)
+
+unit-short : (users : ℕ) (unit : ReadUnit) → IsSoundUnit users unit → Each HexIsShort (acts_of_unit unit)
+unit-short users (parts.Single line) sound = (act-short line.act sound.act, tt)
+unit-short users (parts.Block ls) sound = lines-short users ls sound
+
+units-short : (users : ℕ) (units : List ReadUnit) → Each (IsSoundUnit users) units → Each HexIsShort (flat_map acts_of_unit units)
+units-short users [] sound = tt
+units-short users (unit ∷ units) sound = each-joined HexIsShort (acts_of_unit unit) (flat_map acts_of_unit units) (unit-short users unit sound.0) (units-short users units sound.1)
 
 pub light-fit : LightScriptsFit
-light-fit script program played limits says short names light entries bytes =
-    let records : List ℕ → List (List ℕ) = records_of program.files (map frames_of played) in
-    let some : List Act = flat_map acts_of_unit program.units in
-    let lines-few : length some ≤ length (lines script) = few-acts script program says in
-    let few-lines : length (lines script) ≤ 10000 = short in
-    let few : sum_by count_of some + sum_by (frames_by played) some ≤ 200000 = light.few in
-    let all = all-few records played (acts-few records played (found-same program played names)) some in
-    let room = all.room in
-    let frames = all.frames in
-    let f : frames_of_units (units_of program (map frames_of played)) ≤ sum_by (of_act frames_of_task records) some = script-sum frames_of_task records refl (user_count program) program.units in
-    let k : calls_of_units (units_of program (map frames_of played)) ≤ sum_by (of_act calls_of_task records) some = script-sum calls_of_task records refl (user_count program) program.units in
-    let most-entries : 8388608 ≤ limits.entries = entries in
-    let most-bytes : 536870912 ≤ limits.bytes = bytes in
-    record {
-      costed = each-joined (Each IsCosted) (map (shares_of records (user_count program)) program.units) (map closing_unit (range_with_len 1 (user_count program)))
-          (units-costed records (user_count program) program.units light.plain)
-          (each-mapped (Each IsCosted) closing_unit (range_with_len 1 (user_count program)) closing-costed);
-      entries = omega (arith, f, k, room, few, lines-few, few-lines, most-entries);
-      bytes = omega (arith, f, frames, few, lines-few, few-lines, most-bytes);
-    }
+light-fit script program played limits says sound short names light entries bytes = by light.few
+  where
+    most-entries : 16777216 ≤ limits.entries
+    most-entries = entries
+
+    most-bytes : 1073741824 ≤ limits.bytes
+    most-bytes = bytes
+
+    few-lines : length (flat_map acts_of_unit program.units) ≤ 10000
+    few-lines =
+        let lines-few : length (flat_map acts_of_unit program.units) ≤ length (lines script) = few-acts script program says in
+        let few : length (lines script) ≤ 10000 = short in
+        omega (arith, lines-few, few)
+
+    by : (frames_put_in program played ≤ most_light_frames) ⊎ ((frames_put_in program played ≤ most_narrow_frames) × ((switch : List ℕ) → opens_of switch program ≤ most_narrow_ports))
+        → TasksFit program (map frames_of played) limits
+    by (inl few) =
+        tasks-fit program played limits most_switch_ports most_light_frames 10000 409600000 names light.plain (units-short (length program.users) program.units sound.units_are) (inl (omega arith)) few few-lines light.short
+        (omega (arith, most-entries)) (omega (arith, most-bytes))
+    by (inr both) =
+        tasks-fit program played limits most_narrow_ports most_narrow_frames 10000 409600000 names light.plain (units-short (length program.users) program.units sound.units_are) (inr both.1) both.0 few-lines light.short
+        (omega (arith, most-entries)) (omega (arith, most-bytes))

@@ -1,12 +1,15 @@
 -- The record of a script of few tasks has room for each of its calls.
-use Rattle.std.proofs.Common.{ℕ, zero, suc, ◌+◌, ◌-◌, ◌≤◌, ◌≡◌, inr, List, [], ◌∷◌, map, take, length, slice_get, Option, Some, None, refl, sym, ◌∙◌, ap, subst, arith}
-use Rattle.std.specs.Prelude.{sum_by}
+use Rattle.std.proofs.Common.{ℕ, zero, suc, ◌+◌, ◌-◌, ◌*◌, ◌≤◌, ◌≡◌, ◌⊎◌, inl, inr, List, [], ◌∷◌, map, take, drop, take-append-drop, length, slice_get, Option, Some, None, refl, sym, ◌∙◌, ap, subst, arith}
+use Rattle.std.specs.Prelude.{sum_by, count_by}
 use Rattle.std.specs.List.{range_with_len, IsDistinct, AllByRecursion as Each}
-use Rattle.std.proofs.lemmas.List.Sums.{sum_by-cons}
+use Rattle.std.proofs.lemmas.List.Sums.{sum_by-cons, sum_by-append}
 use Rattle.vale_entry.specs.declared.entry.Entry.{Entry}
 use Rattle.vale_entry.specs.Arrivals.{arrivals_of}
 use Rattle.vale_entry.specs.OwnCalls.{own_after}
-use Rattle.vale_entry.specs.Legal.{Outcome, IsLegal, standing_of, step, kept_ask}
+use Rattle.nm_types.specs.Limits.{most_switch_ports}
+use Rattle.nm_types.specs.declared.limits.Limits.{Limits}
+use Rattle.vale_entry.specs.Opening.{is_on_switch}
+use Rattle.vale_entry.specs.Legal.{Outcome, IsLegal, standing_of, world_of, step, kept_ask}
 use Rattle.vale_own.specs.Recorded.{HasRoom, room_by}
 use Rattle.vale_script.specs.Script.{Program}
 use Rattle.vale_replay.specs.Machine.{Machine, new_machine, is_settling}
@@ -14,10 +17,11 @@ use Rattle.vale_replay.specs.Tasks.{Captures}
 use Rattle.vale_replay.specs.Replay.{Cast, ScriptUnit, Reaches, cast_of, entry_of, units_of, user_count}
 use Rattle.vale_replay.proofs.Legal.{played-legal}
 use Rattle.vale_replay.proofs.Joins.{units-apart, take-apart, apart-at}
-use Rattle.vale_cost.specs.Completeness.{frames_left, calls_left, frames_of, calls_of, taken_by, call_of, taken_at, call_at, frames_of_unit, calls_of_unit, frames_of_units, calls_of_units, IsCosted, FewTasksFit}
+use Rattle.vale_cost.specs.Completeness.{Cost, Sends, Bytes, Calls, Opens, cost, left, cost_by, cost_of, cost_at, cost_of_unit, cost_of_units, HadFewPorts, IsCosted, TasksFit, FewTasksFit}
 use Rattle.vale_cost.proofs.RoomSpends.{made-spends}
 use Rattle.vale_cost.proofs.RoomChains.{made-below}
-use Rattle.vale_cost.proofs.RoomHistories.{fit-room}
+use Rattle.vale_cost.proofs.RoomHistories.{fit-room, times-less, were-opened}
+use Rattle.vale_cost.proofs.RoomSwitches.{switches-few}
 use Rattle.vale_cost.proofs.RoomUsers.{legal-take, plain-answered}
 use Rattle.vale_cost.proofs.RoomUnits.{IsUp, each-get, range_to, ranges-join, unit-sum, units-sum}
 
@@ -59,11 +63,10 @@ at-from value f low (e ∷ h) each =
     let other = sum_by-cons value e h in
     omega (arith, here, rest, one, other)
 
-frames-at : (h : List Entry) → sum_by (taken_at h) (range_to 0 (length h)) ≡ frames_of h
-frames-at h = (let all : length h - 0 ≡ length h = omega arith in ap (λ (n : ℕ). sum_by (taken_at h) (range_with_len (0 + 1) n)) all) ∙ at-from taken_by (taken_at h) 0 h (λ i e there. let at : 0 + i + 1 - 1 ≡ i = omega arith in rw (at, there) refl)
-
-calls-at : (h : List Entry) → sum_by (call_at h) (range_to 0 (length h)) ≡ calls_of h
-calls-at h = (let all : length h - 0 ≡ length h = omega arith in ap (λ (n : ℕ). sum_by (call_at h) (range_with_len (0 + 1) n)) all) ∙ at-from call_of (call_at h) 0 h (λ i e there. let at : 0 + i + 1 - 1 ≡ i = omega arith in rw (at, there) refl)
+costs-at : (c : Cost) (h : List Entry) → sum_by (cost_at c h) (range_to 0 (length h)) ≡ cost_of c h
+costs-at c h =
+    (let all : length h - 0 ≡ length h = omega arith in ap (λ (n : ℕ). sum_by (cost_at c h) (range_with_len (0 + 1) n)) all)
+    ∙ at-from (cost_by c) (cost_at c h) 0 h (λ i e there. let at : 0 + i + 1 - 1 ≡ i = omega arith in rw (at, there) refl)
 
 -- ---- at first no user has anything
 
@@ -83,8 +86,7 @@ none-left f pool low (suc count) none =
 -- ---- a script under way
 
 record AllSpent (program : Program) (captures : Captures) (h : List Entry) (nows : Cast) : Type 0 where
-  frames : sum_by frames_left nows.users + frames_of h ≤ frames_of_units (units_of program captures)
-  calls : sum_by calls_left nows.users + calls_of h ≤ calls_of_units (units_of program captures)
+  costs : (c : Cost) → sum_by (left c) nows.users + cost_of c h ≤ cost_of_units c (units_of program captures)
   up : Each (IsUp (length h)) nows.users
 
 all-spent : (program : Program) (captures : Captures) (h : List Entry) (nows : Cast) → Each (Each IsCosted) (units_of program captures) → Reaches program captures h nows
@@ -96,27 +98,42 @@ all-spent program captures h nows costed r =
     (take-each (Each IsCosted) r.count units costed) r.units in
     let here = unit-sum program.pool h legal r.first (length h) r.cast r.unit r.lists r.afters r.forward before.sum.up (apart-at r.count units r.unit (units-apart program captures) r.there)
     (each-at (Each IsCosted) units r.count r.unit costed r.there) r.split r.replays in
-    let fs = ap (λ (c : Cast). sum_by frames_left c.users) r.nows_are in
-    let ks = ap (λ (c : Cast). sum_by calls_left c.users) r.nows_are in
     let on = r.forward in
     let begun = before.forward in
-    let f-join = ranges-join (taken_at h) 0 r.first (length h) begun on in
-    let k-join = ranges-join (call_at h) 0 r.first (length h) begun on in
-    let f-all = frames-at h in
-    let k-all = calls-at h in
-    let f-cost = sum-take frames_of_unit units r.count r.unit r.there in
-    let k-cost = sum-take calls_of_unit units r.count r.unit r.there in
-    let f-none = none-left frames_left program.pool 1 (user_count program) (λ n. refl) in
-    let k-none = none-left calls_left program.pool 1 (user_count program) (λ n. refl) in
-    let f = before.sum.frames_are in
-    let k = before.sum.calls_are in
-    let hf = here.frames_are in
-    let hk = here.calls_are in
     record {
-      frames = omega (arith, fs, f-join, f-all, f-cost, f-none, f, hf);
-      calls = omega (arith, ks, k-join, k-all, k-cost, k-none, k, hk);
-      up = subst (λ (c : Cast). Each (IsUp (length h)) c.users) (sym r.nows_are) here.up;
+      costs = λ c.
+          (let same = ap (λ (k : Cast). sum_by (left c) k.users) r.nows_are in
+          let join = ranges-join (cost_at c h) 0 r.first (length h) begun on in
+          let all = costs-at c h in
+          let cut = sum-take (cost_of_unit c) units r.count r.unit r.there in
+          let none = none-left (left c) program.pool 1 (user_count program) (λ n. refl) in
+          let first = before.sum.costs c in
+          let now = here.costs c in
+          omega (arith, same, join, all, cut, none, first, now));
+      up = subst (λ (k : Cast). Each (IsUp (length h)) k.users) (sym r.nows_are) here.up;
     }
+
+-- what a part of a history costs
+cost-take : (c : Cost) (n : ℕ) (h : List Entry) → cost_of c (take n h) ≤ cost_of c h
+cost-take c n h =
+    let both = sum_by-append (cost_by c) (take n h) (drop n h) in
+    let whole = ap (λ (es : List Entry). cost_of c es) (take-append-drop n h) in
+    omega (arith, both, whole)
+
+-- each switch had few ports: as few as there may be, or as were opened there
+had-few : (program : Program) (captures : Captures) (limits : Limits) (h : List Entry) (nows : Cast) (fit : TasksFit program captures limits) → IsLegal program.pool h
+    → AllSpent program captures h nows → HadFewPorts fit.most program.pool h
+had-few program captures limits h nows fit legal spent number switch = by fit.few
+  where
+    by : (most_switch_ports ≤ fit.most) ⊎ ((other : List ℕ) → cost_of_units (Opens other) (units_of program captures) ≤ fit.most)
+        → count_by (is_on_switch switch) (world_of program.pool (take number h)).ports ≤ fit.most
+    by (inl most) = let few = switches-few program.pool (take number h) switch in omega (arith, few, most)
+    by (inr opens) =
+        let opened = were-opened program.pool (take number h) switch (legal-take program.pool h legal number) in
+        let part = cost-take (Opens switch) number h in
+        let all = spent.costs (Opens switch) in
+        let few = opens switch in
+        omega (arith, opened, part, all, few)
 
 pub few-fit : FewTasksFit
 few-fit program captures region limits h user call fit comes = by (step (standing_of program.pool h) call) refl
@@ -138,13 +155,15 @@ few-fit program captures region limits h user call fit comes = by (step (standin
         (plain-answered n (entry_of call made) (own_after n (entry_of call made) (arrivals_of (standing_of program.pool h) (kept_ask call) made.reply) comes.now.own) comes.now (is_settling (kept_ask call)) up.plain)
         comes.called is in
         let turn = made-spends program.pool h legal n comes.now up.below.tidy made call up.plain comes.called is after-below.tidy in
-        let f = turn.frames in
-        let k = turn.calls in
-        let f-now = sum-get frames_left comes.nows.users (user - 1) comes.now comes.here in
-        let k-now = sum-get calls_left comes.nows.users (user - 1) comes.now comes.here in
-        let f-all = spent.frames in
-        let k-all = spent.calls in
+        let within : (c : Cost) → cost_of c h + cost c (kept_ask call) made.reply ≤ cost_of_units c (units_of program captures) = λ c.
+        (let now = turn.spends c in
+        let some = sum-get (left c) comes.nows.users (user - 1) comes.now comes.here in
+        let all = spent.costs c in
+        omega (arith, now, some, all)) in
+        let sends = times-less (2 * fit.most) (cost_of Sends h + cost Sends (kept_ask call) made.reply) (cost_of_units Sends (units_of program captures)) (within Sends) in
+        let calls = within Calls in
         let entries = fit.entries in
+        let short = within Bytes in
         let bytes = fit.bytes in
-        fit-room (record { pool = program.pool; region = region; limits = limits; entries = h }) call made legal is
-        (record { entries = omega (arith, f, k, f-now, k-now, f-all, k-all, entries); bytes = omega (arith, f, f-now, f-all, bytes) })
+        fit-room fit.most (record { pool = program.pool; region = region; limits = limits; entries = h }) call made legal is
+        (record { few = had-few program captures limits h comes.nows fit legal spent; entries = omega (arith, sends, calls, entries); bytes = omega (arith, short, bytes) })

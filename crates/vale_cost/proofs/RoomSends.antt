@@ -18,8 +18,7 @@ use Rattle.vale_entry.specs.Laws.{Rise, id_of_port, IsPairOf}
 use Rattle.vale_entry.specs.Legal.{Outcome, standing_of, world_of, send_step, can_send, named_of, offers_of_send, made_at}
 use Rattle.vale_entry.proofs.Numbered.{world-numbered}
 use Rattle.vale_entry.proofs.PairsOfSwitch.{pairs-of_switch}
-use Rattle.vale_cost.specs.Completeness.{SendsWantLittle}
-use Rattle.vale_cost.proofs.RoomSwitches.{one_if, switches-few}
+use Rattle.vale_cost.specs.Completeness.{HaveFewPorts, SendsWantLittle, one_if, one_if_some}
 
 -- ---- a frame is named for ports of the sender's switch
 
@@ -228,30 +227,33 @@ all-of : (sender : Port) (count : ℕ) (ports : List Port) (pairs : List Pair) �
 all-of sender count ports [] all = tt
 all-of sender count ports (pair ∷ pairs) all = ((λ other. all.0.on_switch), all-of sender count ports pairs all.1)
 
-pub send-wants : (pool : ℕ) (h : List Entry) (frames : List Frame) (port : Port) → (send_step (standing_of pool h) frames port).want ≤ 1 + 34 * length frames
-send-wants pool h [] port =
+pub send-wants : (most pool : ℕ) (h : List Entry) (frames : List Frame) (port : Port) → HaveFewPorts most (world_of pool h).ports
+    → (send_step (standing_of pool h) frames port).want ≤ 2 * most * one_if_some (length frames) + 3
+send-wants most pool h [] port few-on =
     let w = world_of pool h in
     let none : length (dests_of (offers_of_send w port [])) ≡ 0 = ap (λ os. length (dests_of os)) (no-offers (w.entry_count + 1) port.session port (transmit_monitor w port.id) w.ports) in
     omega (arith, none)
-send-wants pool h (frame ∷ frames) port =
+send-wants most pool h (frame ∷ frames) port few-on =
     let w = world_of pool h in
     let named = named-on port w.ports w.pairs (frame ∷ frames) (all-of port w.entry_count w.ports w.pairs (pairs-of_switch pool h)) in
     let few = offers-few (w.entry_count + 1) port.session port (transmit_monitor w port.id) (named_of w port (frame ∷ frames)) w.ports named in
     let one = one-watches (transmit_monitor w port.id) 0 w.ports w.entry_count (world-numbered pool h).ports_rise in
-    let most = switches-few pool h (switch_of port.name) in
+    let at = few-on (switch_of port.name) in
     let same = length-map (offers_of_send w port (frame ∷ frames)) dest_of in
-    omega (arith, few, one, most, same)
+    let some : one_if_some (length (frame ∷ frames)) ≡ 1 = refl in
+    let times : 2 * most * one_if_some (length (frame ∷ frames)) ≡ 2 * most * 1 = ap (λ (n : ℕ). 2 * most * n) some in
+    omega (arith, few, one, at, same, times)
 
-sent-by : (pool : ℕ) (h : List Entry) (frames : List Frame) (found : Option Port) (made : Outcome)
-    → made_at (can_send (world_of pool h) frames) (send_step (standing_of pool h) frames) found ≡ Some made → made.want ≤ 1 + 34 * length frames
-sent-by pool h frames None made e = absurd cc
-sent-by pool h frames (Some port) made e = by (can_send (world_of pool h) frames port) e
+sent-by : (most pool : ℕ) (h : List Entry) (frames : List Frame) (found : Option Port) (made : Outcome) → HaveFewPorts most (world_of pool h).ports
+    → made_at (can_send (world_of pool h) frames) (send_step (standing_of pool h) frames) found ≡ Some made → made.want ≤ 2 * most * one_if_some (length frames) + 3
+sent-by most pool h frames None made few e = absurd cc
+sent-by most pool h frames (Some port) made few e = by (can_send (world_of pool h) frames port) e
   where
-    by : (b : Bool) → cond b (Some (send_step (standing_of pool h) frames port)) None ≡ Some made → made.want ≤ 1 + 34 * length frames
+    by : (b : Bool) → cond b (Some (send_step (standing_of pool h) frames port)) None ≡ Some made → made.want ≤ 2 * most * one_if_some (length frames) + 3
     by true e' =
         let same : send_step (standing_of pool h) frames port ≡ made = cc in
-        subst (λ (m : Outcome). m.want ≤ 1 + 34 * length frames) same (send-wants pool h frames port)
+        subst (λ (m : Outcome). m.want ≤ 2 * most * one_if_some (length frames) + 3) same (send-wants most pool h frames port few)
     by false e' = absurd cc
 
 pub sends-little : SendsWantLittle
-sends-little pool h port frames made e = sent-by pool h frames (open_port (world_of pool h).ports port.0) made e
+sends-little most pool h port frames made few e = sent-by most pool h frames (open_port (world_of pool h).ports port.0) made few e

@@ -50,8 +50,8 @@ module _ (k : ℕ) (own new : OwnState) (id : ℕ) (g : RingState → RingState)
 
 send-below : (k : ℕ) (own : OwnState) (port : PortId) (frames : List Frame) → AreBelow k (views own) → IsTxCall own port.0 (Send port frames) → AreBelow k (views (own_after_send port.0 own))
 send-below k own port frames below c =
-    let a = sent-as (refusal_in Tx own c.ring) (is_pipe_name c.port.name) c.port.id port (offered_items own c.ring) (pushed_frames (bytes_at own) (pushed_in Tx c.ring)) frames c.is in
-    let fits = sync-fits Tx own c.ring a.none in
+    let a = sent-as (refusal_in Tx own c.port c.ring) (is_pipe_name c.port.name) c.port.id port (offered_items own c.ring) (pushed_frames (bytes_at own) (pushed_in Tx c.ring)) frames c.is in
+    let fits = sync-fits Tx own c.port c.ring a.none in
     let seen-new = seen-tx port.0 ring_after_send sent_ring (λ r. refl) (after_exchange Tx port.0 own).ports ∙ ap (map (view_if port.0 sent_ring)) (seen-exchanged Tx port.0 (pushed_on Tx port.0 own) own.ports) in
     below-ring k own (own_after_send port.0 own) port.0 sent_ring below seen-new c.port c.ring c.found c.has
     (accepted-ring c.ring.ring (ring-is own port.0 c.port c.ring below.tidy c.found c.has) fits (length (pushed_slots c.ring.ring c.ring.ring.head)))
@@ -59,8 +59,8 @@ send-below k own port frames below c =
 put-below : (k : ℕ) (own : OwnState) (port : PortId) (reply : Reply) (came : List Arrival) → AreBelow k (views own) → IsPutCall own port.0 reply → AreBelow k (views (own_after_put port.0 came own))
 put-below k own port reply came below c =
     let call = c.call in
-    let a = put-as (refusal_in Tx own call.ring) (is_pipe_name call.port.name) call.port.id (record { 0 = port.0 }) (offered_items own call.ring) c.offered (pushed_frames (bytes_at own) (pushed_in Tx call.ring)) call.is in
-    let fits = sync-fits Tx own call.ring a.none in
+    let a = put-as (refusal_in Tx own call.port call.ring) (is_pipe_name call.port.name) call.port.id (record { 0 = port.0 }) (offered_items own call.ring) c.offered (pushed_frames (bytes_at own) (pushed_in Tx call.ring)) call.is in
+    let fits = sync-fits Tx own call.port call.ring a.none in
     let n : ℕ = length (buffers_of_arrivals came) in
     let seen-new = seen-tx port.0 (ring_after_put (buffers_of_arrivals came)) (accepted n) (λ r. refl) (after_exchange Tx port.0 own).ports ∙ ap (map (view_if port.0 (accepted n))) (seen-exchanged Tx port.0 (pushed_on Tx port.0 own) own.ports) in
     below-ring k own (own_after_put port.0 came own) port.0 (accepted n) below seen-new call.port call.ring call.found call.has

@@ -1,5 +1,8 @@
 -- A turn of a user spends what its entry costs.
-use Rattle.std.proofs.Common.{ℕ, ◌≡◌, Bool, true, false, cond, List, Option, Some, None, option_map, refl, subst}
+use Rattle.std.proofs.Common.{ℕ, ◌*◌, ◌≤◌, ◌≡◌, Bool, true, false, cond, not, List, [], ◌∷◌, length, Option, Some, None, option_map, refl, subst, arith}
+use Rattle.std.specs.List.{list_all}
+use Rattle.std.proofs.lemmas.Bool.{and_parts, leb-true}
+use Rattle.std.proofs.lemmas.List.Sums.{sum_by-cons}
 use Rattle.std.proofs.lemmas.Option.{same_Some}
 use Rattle.std.specs.Prelude.{bytes_eq, option_and_then}
 use Rattle.nm_types.specs.declared.id.PortId.{PortId}
@@ -7,14 +10,19 @@ use Rattle.nm_types.specs.declared.id.Side.{Side}
 use Rattle.nm_types.specs.declared.id.Side.TheVariants.{Tx, Rx}
 use Rattle.nm_types.specs.declared.fault.SyncFault.{SyncFault}
 use Rattle.nm_types.specs.Names.{is_pipe_name}
+use Rattle.nm_types.specs.Frames.{Frame, bytes_of_frames}
+use Rattle.nm_types.specs.Sendable.{fits_buffer}
 use Rattle.nm_types.specs.Slots.{pushed_frames}
 use Rattle.nm_types.specs.OwnPorts.{OwnRing, OwnPort, OwnState, bytes_at, pushed_in, refusal_in, port_with_id, port_with_name}
-use Rattle.nm_types.specs.OwnEdits.{has_slot}
+use Rattle.nm_types.specs.OwnEdits.{has_slots}
+use Rattle.nm_types.specs.Parts.{slots_of_bytes}
 use Rattle.vale_entry.specs.declared.entry.Ask.{Ask}
 use Rattle.vale_entry.specs.declared.entry.Ask.TheVariants.{Send, Sync, Put, Get}
 use Rattle.vale_entry.specs.declared.entry.Entry.{Entry}
+use Rattle.vale_entry.specs.declared.entry.Item.{Item}
 use Rattle.vale_entry.specs.declared.entry.Reply.{Reply}
 use Rattle.vale_entry.specs.Arrivals.{arrivals_of}
+use Rattle.vale_entry.specs.Pipe.{frames_of_items, is_pipe_item}
 use Rattle.vale_entry.specs.OwnCalls.{or_reset, offered_items, back_in, tx_call, rx_call}
 use Rattle.vale_entry.specs.Legal.{Standing, Outcome, IsLegal, standing_of, step, kept_ask, unchanged, sync_step}
 use Rattle.vale_entry.proofs.Each.{each-find}
@@ -24,9 +32,9 @@ use Rattle.vale_own.proofs.Rooms.{step-recorded}
 use Rattle.vale_own.proofs.SideArrivals.{lent-count}
 use Rattle.vale_own.proofs.SideSound.{each-found}
 use Rattle.vale_replay.specs.Machine.{is_settling, put_call, room_call, send_call}
-use Rattle.vale_cost.specs.Completeness.{calls_of_ask}
+use Rattle.vale_cost.specs.Completeness.{calls_of_ask, opened_by}
 use Rattle.vale_cost.proofs.RoomViews.{AreTidy, views, ids-seen}
-use Rattle.vale_cost.proofs.RoomOwn.{BringsAsMany}
+use Rattle.vale_cost.proofs.RoomOwn.{BringsKept}
 
 -- ---- ports by name and by id
 
@@ -38,21 +46,22 @@ by-id own name p tidy named =
 
 pub record IsSync (ask : Ask) : Type 0 where
   pub settles : is_settling (kept_ask ask) ≡ false
-  pub costs : calls_of_ask (kept_ask ask) ≡ 3
+  pub calls : calls_of_ask (kept_ask ask) ≡ 3
+  pub opens : (switch : List ℕ) (reply : Reply) → opened_by switch (kept_ask ask) reply ≡ 0
 
 sync-by : (fault : Option SyncFault) (id : PortId) (side : Side) (b : Bool) (one other : Ask) → IsSync one → IsSync other → IsSync (or_reset fault id side (cond b one other))
 sync-by None id side true one other front back = front
 sync-by None id side false one other front back = back
-sync-by (Some fault) id side b one other front back = record { settles = refl; costs = refl }
+sync-by (Some fault) id side b one other front back = record { settles = refl; calls = refl; opens = λ switch reply. refl }
 
 pub tx-sync : (own : OwnState) (p : OwnPort) (r : OwnRing) → IsSync (tx_call own p r)
 tx-sync own p r =
-    sync-by (refusal_in Tx own r) p.id Tx (is_pipe_name p.name) (Put p.id (offered_items own r)) (Send p.id (pushed_frames (bytes_at own) (pushed_in Tx r)))
-    (record { settles = refl; costs = refl }) (record { settles = refl; costs = refl })
+    sync-by (refusal_in Tx own p r) p.id Tx (is_pipe_name p.name) (Put p.id (offered_items own r)) (Send p.id (pushed_frames (bytes_at own) (pushed_in Tx r)))
+    (record { settles = refl; calls = refl; opens = λ switch reply. refl }) (record { settles = refl; calls = refl; opens = λ switch reply. refl })
 
 pub rx-sync : (own : OwnState) (p : OwnPort) → IsSync (rx_call own p)
 rx-sync own p =
-    sync-by (refusal_in Rx own p.rx) p.id Rx (is_pipe_name p.name) (Get p.id (back_in p)) (Sync p.id (back_in p)) (record { settles = refl; costs = refl }) (record { settles = refl; costs = refl })
+    sync-by (refusal_in Rx own p p.rx) p.id Rx (is_pipe_name p.name) (Get p.id (back_in p)) (Sync p.id (back_in p)) (record { settles = refl; calls = refl; opens = λ switch reply. refl }) (record { settles = refl; calls = refl; opens = λ switch reply. refl })
 
 pub record TxOf (own : OwnState) (name : List ℕ) (ask : Ask) : Type 0 where
   pub port : OwnPort
@@ -73,8 +82,8 @@ tx-of own name ask call is e = by (port_with_name own name) refl e
     by None named e' = absurd cc
     by (Some p) named e' = by-ring p p.tx named refl e'
 
-pub put-of : (own : OwnState) (name : List ℕ) (ask : Ask) → option_and_then (put_call own) (port_with_name own name) ≡ Some ask → TxOf own name ask
-put-of own name ask e = tx-of own name ask (room_call own) (λ p r. room p r (has_slot r)) e
+pub put-of : (own : OwnState) (name bytes : List ℕ) (ask : Ask) → option_and_then (put_call own bytes) (port_with_name own name) ≡ Some ask → TxOf own name ask
+put-of own name bytes ask e = tx-of own name ask (room_call own bytes) (λ p r. room p r (has_slots (slots_of_bytes bytes) r)) e
   where
     room : (p : OwnPort) (r : OwnRing) (b : Bool) → cond b None (Some (tx_call own p r)) ≡ Some ask → tx_call own p r ≡ ask
     room p r true e' = absurd cc
@@ -95,20 +104,30 @@ pub mapped : {X : Type 0} (f : X → Ask) (o : Option X) (ask : Ask) (P : Ask �
 mapped f None ask P e each = absurd cc
 mapped f (Some x) ask P e each = subst P (same_Some (f x) ask e) (each x refl)
 
--- ---- as many buffers come as frames were taken
+-- ---- as many buffers come as frames were taken, and each frame fits one
+
+items-bytes : (items : List Item) → list_all is_pipe_item items ≡ true → bytes_of_frames (frames_of_items items) ≤ 2048 * length items
+items-bytes [] fit = omega arith
+items-bytes (item ∷ items) fit =
+    let parts = and_parts (is_pipe_item item) (list_all is_pipe_item items) fit in
+    let fits = and_parts (fits_buffer item.bytes) (not item.bytes.no_learn) parts.0 in
+    let here = leb-true (length item.bytes.bytes) 2048 fits.0 in
+    let rest = items-bytes items parts.1 in
+    let cut = sum_by-cons (λ (f : Frame). length f.bytes) item.bytes (frames_of_items items) in
+    omega (arith, here, rest, cut)
 
 module _ (pool : ℕ) (past : List Entry) (legal : IsLegal pool past) where
   abbrev s : Standing
   s = standing_of pool past
 
   abbrev Brings : Ask → Outcome → Type 0
-  Brings ask made = BringsAsMany ask made.reply (arrivals_of s ask made.reply)
+  Brings ask made = BringsKept ask made.reply (arrivals_of s ask made.reply)
 
   quiet-brings : (ask : Ask) (session : ℕ) (reply : Reply) → IsQuiet s ask session reply → Brings ask (unchanged s session reply)
   quiet-brings ask session reply (counts at port e) = tt
   quiet-brings ask session reply (refused_open id name tx rx extra fault can refused) = tt
   quiet-brings ask session reply (resets at side fault port e can) = tt
-  quiet-brings ask session reply (finds_no_peer at offered port e few none) = refl
+  quiet-brings ask session reply (finds_no_peer at offered port e few none) = (refl, omega arith)
   quiet-brings ask session reply (finds_no_target at target sides port e can none) = tt
   quiet-brings ask session reply (finds_watched at target sides port found watch e can there is) = tt
 
@@ -128,7 +147,7 @@ module _ (pool : ℕ) (past : List Entry) (legal : IsLegal pool past) where
     completes = λ lease lot e. tt;
     puts = λ at offered items port peer e can found.
         let stands = history-stands pool past legal in
-        rw (e, found) (lent-count s offered items port peer can found stands.numbered stands.held);
+        (rw (e, found) (lent-count s offered items port peer can found stands.numbered stands.held), items-bytes items can.sound);
     watches = λ at target sides port found e can there none. tt;
     shuts = λ at port e settled. tt;
     finishes = λ at bufs chain port fits e can out. tt;

@@ -15,7 +15,7 @@ use Rattle.vale_replay.proofs.Joins.{split-in}
 use Rattle.vale_replay.proofs.Numbers.{range-split}
 use Rattle.vale_replay.proofs.OneState.{narrow, from-first}
 use Rattle.vale_replay.proofs.Sums.{sum-same}
-use Rattle.vale_cost.specs.Completeness.{frames_left, calls_left, taken_at, call_at, frames_of_share, calls_of_share, frames_of_unit, calls_of_unit, frames_of_units, calls_of_units, IsCosted}
+use Rattle.vale_cost.specs.Completeness.{Cost, left, cost_at, cost_of_share, cost_of_unit, cost_of_units, IsCosted}
 use Rattle.vale_cost.proofs.RoomViews.{AreBelow, below-later, views}
 use Rattle.vale_cost.proofs.RoomRests.{ArePlain, rests}
 use Rattle.vale_cost.proofs.RoomUsers.{chain}
@@ -57,9 +57,8 @@ all-up k n (u ∷ us) up all = (record { below = below-later k n (views u.own) u
 abbrev pub flat : List (List ℕ) → List ℕ
 flat lists = flat_map (λ (ns : List ℕ). ns) lists
 
-pub record UnitSum (h : List Entry) (us next : List Machine) (ns : List ℕ) (frames calls last : ℕ) : Type 0 where
-  pub frames_are : sum_by frames_left next + sum_by (taken_at h) ns ≤ sum_by frames_left us + frames
-  pub calls_are : sum_by calls_left next + sum_by (call_at h) ns ≤ sum_by calls_left us + calls
+pub record UnitSum (h : List Entry) (us next : List Machine) (ns : List ℕ) (most : Cost → ℕ) (last : ℕ) : Type 0 where
+  pub costs : (c : Cost) → sum_by (left c) next + sum_by (cost_at c h) ns ≤ sum_by (left c) us + most c
   pub up : Each (IsUp last) next
 
 -- the users are as at the unit's beginning where shares are still to come
@@ -77,8 +76,7 @@ module _ (pool : ℕ) (h : List Entry) (legal : (n : ℕ) → IsLegal pool (take
   Inside lists = (b : ℕ) → 1 ≤ times_among b lists → (first < b) × (b ≤ last)
 
   record ShareSum (share : UnitShare) (before : Machine) (ns : List ℕ) (after : Machine) : Type 0 where
-    frames_are : frames_left after + sum_by (taken_at h) ns ≤ frames_left before + frames_of_share share
-    calls_are : calls_left after + sum_by (call_at h) ns ≤ calls_left before + calls_of_share share
+    costs : (c : Cost) → left c after + sum_by (cost_at c h) ns ≤ left c before + cost_of_share c share
     up_after : IsUp last after
 
   one-share : (share : UnitShare) (before : Machine) (ns : List ℕ) (after : Machine) → IsCosted share → IsUp first before
@@ -88,18 +86,19 @@ module _ (pool : ℕ) (h : List Entry) (legal : (n : ℕ) → IsLegal pool (take
       let r = rests begun (share.tasks before) (costed.plain before) in
       let rise = from-first first ns last (narrow 0 ns (length h) last replays.rise (omega arith) (λ b some. (inside b some).1)) forward (λ b some. (inside b some).0) in
       let c = chain pool h first last (starting share before) ns after legal rise (r.below first below.below) r.plain replays.turns in
-      let f = c.spends.frames in
-      let k = c.spends.calls in
-      let rf = r.frames below.below.tidy in
-      let rk = r.calls in
-      let cf = costed.frames before in
-      let ck = costed.calls before in
-      record { frames_are = omega (arith, f, rf, cf); calls_are = omega (arith, k, rk, ck); up_after = record { below = c.below; plain = c.spends.plain } }
+      record {
+        costs = λ m.
+            (let spent = c.spends.spends m in
+            let rested = r.spends m below.below.tidy in
+            let costs = costed.costs m before in
+            omega (arith, spent, rested, costs));
+        up_after = record { below = c.below; plain = c.spends.plain };
+      }
 
   pub shares-sum : (us : List Machine) (shares : ScriptUnit) (lists : List (List ℕ)) (afters : List Machine) → AreApart shares → Each IsCosted shares → Inside lists → Each (IsUp last) us
       → Agree us cast.users shares → EachShare (ReplaysShare pool h) cast shares lists afters
-      → UnitSum h us (with_afters shares afters us) (flat lists) (frames_of_unit shares) (calls_of_unit shares) last
-  shares-sum us [] [] [] apart costed inside ups agree each = record { frames_are = omega arith; calls_are = omega arith; up = ups }
+      → UnitSum h us (with_afters shares afters us) (flat lists) (λ c. cost_of_unit c shares) last
+  shares-sum us [] [] [] apart costed inside ups agree each = record { costs = λ c. omega arith; up = ups }
   shares-sum us (share ∷ shares) (ns ∷ lists) (after ∷ afters) apart costed inside ups agree each =
       let before = each.0.0 in
       let among : (b : ℕ) → times_among b (ns ∷ lists) ≡ count_of b ns + times_among b lists = λ b. among-cons b ns lists in
@@ -108,17 +107,16 @@ module _ (pool : ℕ) (h : List Entry) (legal : (n : ℕ) → IsLegal pool (take
       let rest = shares-sum (slice_set us (place_of share) after) shares lists afters apart.1 costed.1 (λ b some. inside b (let all = among b in omega (arith, all, some)))
       (each-set (IsUp last) us (place_of share) after ups one.up_after) (agree-set us cast.users (place_of share) after shares apart.0 agree.1) each.1 in
       let here = agree.0 ∙ each.0.1 in
-      let f-set = sum-set frames_left us (place_of share) after before here in
-      let k-set = sum-set calls_left us (place_of share) after before here in
-      let f-flat = sum_by-append (taken_at h) ns (flat lists) in
-      let k-flat = sum_by-append (call_at h) ns (flat lists) in
-      let f-cost = sum_by-cons frames_of_share share shares in
-      let k-cost = sum_by-cons calls_of_share share shares in
-      let f = one.frames_are in
-      let k = one.calls_are in
-      let rf = rest.frames_are in
-      let rk = rest.calls_are in
-      record { frames_are = omega (arith, f-set, f-flat, f-cost, f, rf); calls_are = omega (arith, k-set, k-flat, k-cost, k, rk); up = rest.up }
+      record {
+        costs = λ c.
+            (let set = sum-set (left c) us (place_of share) after before here in
+            let all = sum_by-append (cost_at c h) ns (flat lists) in
+            let unit = sum_by-cons (cost_of_share c) share shares in
+            let first = one.costs c in
+            let others = rest.costs c in
+            omega (arith, set, all, unit, first, others));
+        up = rest.up;
+      }
   shares-sum us [] [] (a ∷ afters) apart costed inside ups agree each = absurd each
   shares-sum us [] (ns ∷ lists) afters apart costed inside ups agree each = absurd each
   shares-sum us (share ∷ shares) [] afters apart costed inside ups agree each = absurd each
@@ -151,14 +149,13 @@ flat-range f first last lists forward split =
 
 pub unit-sum : (pool : ℕ) (h : List Entry) (legal : (n : ℕ) → IsLegal pool (take n h)) (first last : ℕ) (cast : Cast) (unit : ScriptUnit) (lists : List (List ℕ)) (afters : List Machine) → first ≤ last
     → Each (IsUp first) cast.users → AreApart unit → Each IsCosted unit → AreSplit first last lists → EachShare (ReplaysShare pool h) cast unit lists afters
-    → UnitSum h cast.users (with_afters unit afters cast.users) (range_to first last) (frames_of_unit unit) (calls_of_unit unit) last
+    → UnitSum h cast.users (with_afters unit afters cast.users) (range_to first last) (λ c. cost_of_unit c unit) last
 unit-sum pool h legal first last cast unit lists afters forward up apart costed split each =
     let all = shares-sum pool h legal first last forward cast up cast.users unit lists afters apart costed (λ b some. split-in first last lists b split some) (all-up first last cast.users forward up) (agree-same cast.users unit) each in
-    let f-same = flat-range (taken_at h) first last lists forward split in
-    let k-same = flat-range (call_at h) first last lists forward split in
-    let f = all.frames_are in
-    let k = all.calls_are in
-    record { frames_are = omega (arith, f-same, f); calls_are = omega (arith, k-same, k); up = all.up }
+    record {
+      costs = λ c. (let same = flat-range (cost_at c h) first last lists forward split in let sum = all.costs c in omega (arith, same, sum));
+      up = all.up;
+    }
 
 -- ---- units one after another
 
@@ -176,21 +173,19 @@ empty-range first last e = let none : last - first ≡ 0 = omega (arith, e) in a
 
 pub record UnitsSum (h : List Entry) (users next : List Machine) (first last : ℕ) (units : List ScriptUnit) : Type 0 where
   pub forward : first ≤ last
-  pub sum : UnitSum h users next (range_to first last) (frames_of_units units) (calls_of_units units) last
+  pub sum : UnitSum h users next (range_to first last) (λ c. cost_of_units c units) last
 
 pub units-sum : (pool : ℕ) (h : List Entry) (legal : (n : ℕ) → IsLegal pool (take n h)) (first : ℕ) (cast : Cast) (units : List ScriptUnit) (next : Cast) (last : ℕ)
     → Each (IsUp first) cast.users → Each AreApart units → Each (Each IsCosted) units → ReplaysUnits pool h cast first units next last → UnitsSum h cast.users next.users first last units
 units-sum pool h legal first cast [] next last up apart costed r =
     let none = empty-range first last r.1 in
-    let f = ap (λ (ns : List ℕ). sum_by (taken_at h) ns) none in
-    let k = ap (λ (ns : List ℕ). sum_by (call_at h) ns) none in
-    let fs = ap (λ (c : Cast). sum_by frames_left c.users) r.0 in
-    let ks = ap (λ (c : Cast). sum_by calls_left c.users) r.0 in
     record {
       forward = (let e = r.1 in omega (arith, e));
       sum = record {
-        frames_are = omega (arith, f, fs);
-        calls_are = omega (arith, k, ks);
+        costs = λ c.
+            (let empty = ap (λ (ns : List ℕ). sum_by (cost_at c h) ns) none in
+            let same = ap (λ (k : Cast). sum_by (left c) k.users) r.0 in
+            omega (arith, empty, same));
         up = subst (λ (n : ℕ). Each (IsUp n) next.users) (sym r.1) (subst (λ (c : Cast). Each (IsUp first) c.users) (sym r.0) up);
       };
     }
@@ -199,20 +194,20 @@ units-sum pool h legal first cast (unit ∷ units) next last up apart costed r =
     let number = r.1.0 in
     let one = r.1.1.0 in
     let here = unit-sum pool h legal first number cast unit one.lists one.afters one.forward up apart.0 costed.0 one.split one.replays in
-    let there : UnitSum h cast.users between.users (range_to first number) (frames_of_unit unit) (calls_of_unit unit) number =
-    subst (λ (c : Cast). UnitSum h cast.users c.users (range_to first number) (frames_of_unit unit) (calls_of_unit unit) number) (sym one.others) here in
+    let there : UnitSum h cast.users between.users (range_to first number) (λ c. cost_of_unit c unit) number =
+    subst (λ (c : Cast). UnitSum h cast.users c.users (range_to first number) (λ c. cost_of_unit c unit) number) (sym one.others) here in
     let rest = units-sum pool h legal number between units next last there.up apart.1 costed.1 r.1.1.1 in
     let on = rest.forward in
     let begun = one.forward in
-    let f-join = ranges-join (taken_at h) first number last begun on in
-    let k-join = ranges-join (call_at h) first number last begun on in
-    let f-cost = sum_by-cons frames_of_unit unit units in
-    let k-cost = sum_by-cons calls_of_unit unit units in
-    let f = there.frames_are in
-    let k = there.calls_are in
-    let rf = rest.sum.frames_are in
-    let rk = rest.sum.calls_are in
     record {
       forward = omega (arith, on, begun);
-      sum = record { frames_are = omega (arith, f-join, f-cost, f, rf); calls_are = omega (arith, k-join, k-cost, k, rk); up = rest.sum.up };
+      sum = record {
+        costs = λ c.
+            (let join = ranges-join (cost_at c h) first number last begun on in
+            let all = sum_by-cons (cost_of_unit c) unit units in
+            let one-unit = there.costs c in
+            let others = rest.sum.costs c in
+            omega (arith, join, all, one-unit, others));
+        up = rest.sum.up;
+      };
     }

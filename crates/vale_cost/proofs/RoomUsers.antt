@@ -13,7 +13,7 @@ use Rattle.vale_entry.proofs.Rising.{rise-bounds}
 use Rattle.vale_own.proofs.OwnKept.{legal-split}
 use Rattle.vale_replay.specs.Machine.{Machine, answered, is_settling, resting, with_tasks}
 use Rattle.vale_replay.specs.Replay.{TakesTurn, TakesTurns, entry_of}
-use Rattle.vale_cost.specs.Completeness.{taken_by, call_of, taken_at, call_at, IsOpenedBy, SpendsAll, UsersSpend, IsPlainTask}
+use Rattle.vale_cost.specs.Completeness.{cost_by, cost_at, IsOpenedBy, SpendsAll, UsersSpend, IsPlainTask}
 use Rattle.vale_replay.proofs.Behind.{behind-all}
 use Rattle.vale_cost.proofs.RoomViews.{View, AreBelow, below-later, seen, views, tidy-of}
 use Rattle.vale_cost.proofs.RoomRests.{ArePlain}
@@ -48,23 +48,23 @@ pub chain : (pool : ℕ) (h : List Entry) (low high : ℕ) (user : Machine) (ns 
     → AreBelow low (views user.own) → ArePlain user.tasks → TakesTurns pool h user ns after → Chain h user ns after high
 chain pool h low high user [] after legal rise below plain turns =
     subst (λ (m : Machine). Chain h user [] m high) (sym turns)
-    (record { spends = record { frames = omega arith; calls = omega arith; plain = plain }; below = below-later low high (views user.own) (rise-bounds low [] high rise) below })
+    (record { spends = record { spends = λ c. omega arith; plain = plain }; below = below-later low high (views user.own) (rise-bounds low [] high rise) below })
 chain pool h low high user (n ∷ ns) after legal rise below plain turns =
     let next = turns.0 in
     let turn = turns.1.0 in
     let there = turn-below pool h low user n next below rise.0 plain turn in
     let one = tidy-spends pool h user n next (legal (n - 1)) below.tidy there.tidy plain turn in
     let rest = chain pool h n high next ns after legal rise.1 there one.plain turns.1.1 in
-    let taken : taken_at h n ≡ taken_by turn.entry = ap (λ (o : Option Entry). option_map_or taken_by o 0) turn.there in
-    let cost : call_at h n ≡ call_of turn.entry = ap (λ (o : Option Entry). option_map_or call_of o 0) turn.there in
-    let frames = sum_by-cons (taken_at h) n ns in
-    let calls = sum_by-cons (call_at h) n ns in
-    let f = one.frames in
-    let c = one.calls in
-    let rf = rest.spends.frames in
-    let rc = rest.spends.calls in
     record {
-      spends = record { frames = omega (arith, taken, frames, f, rf); calls = omega (arith, cost, calls, c, rc); plain = rest.spends.plain };
+      spends = record {
+        spends = λ c.
+            (let here : cost_at c h n ≡ cost_by c turn.entry = ap (λ (o : Option Entry). option_map_or (cost_by c) o 0) turn.there in
+            let all = sum_by-cons (cost_at c h) n ns in
+            let first = one.spends c in
+            let others = rest.spends.spends c in
+            omega (arith, here, all, first, others));
+        plain = rest.spends.plain;
+      };
       below = rest.below;
     }
 

@@ -1,4 +1,4 @@
--- What a port's waiting frames are read off: its id, whether it is a pipe's, and the positions of
+-- What waits in a port's ring is read off: its id, whether it is a pipe's, and the positions of
 -- its transmit ring.
 use Rattle.std.proofs.Common.{ℕ, ◌+◌, ◌≤◌, ◌≡◌, Bool, true, false, cond, ◌==◌, nat_eq, List, [], ◌∷◌, map, filter, fold, Option, Some, None, option_map, refl, sym, ◌∙◌, ap, ap₂, arith, inl, inr}
 use Rattle.std.specs.Prelude.{find, sum_by}
@@ -14,7 +14,7 @@ use Rattle.nm_types.specs.Slots.{Pushed}
 use Rattle.nm_types.specs.OwnPorts.{OwnRing, OwnPort, OwnState, port_if, with_ring_on}
 use Rattle.nm_types.specs.OwnSyncs.{ring_swapped, port_swapped, after_slot, buffer_on}
 use Rattle.vale_own.specs.Side.{IsSound, IsSoundPort, IsTxRingIf, id_of}
-use Rattle.vale_cost.specs.Completeness.{waiting_of, waiting_at, waiting}
+use Rattle.vale_cost.specs.Completeness.{Cost, cost_of_ring, waiting_at, waiting}
 
 pub record View : Type 0 where
   pub id : ℕ
@@ -30,11 +30,11 @@ seen p = record { id = p.id.0; pipe = is_pipe_name p.name; ring = option_map rin
 abbrev pub views : OwnState → List View
 views s = map seen s.ports
 
-abbrev pub weight : View → ℕ
-weight v = option_map_or (waiting_of v.pipe) v.ring 0
+abbrev pub weight : Cost → View → ℕ
+weight c v = option_map_or (cost_of_ring c v.pipe) v.ring 0
 
-abbrev pub total : List View → ℕ
-total vs = sum_by weight vs
+abbrev pub total : Cost → List View → ℕ
+total c vs = sum_by (weight c) vs
 
 abbrev pub id_seen : View → ℕ
 id_seen v = v.id
@@ -46,19 +46,19 @@ IsRingIf (Some ring) = IsRing ring
 abbrev pub IsRingAt : View → Type 0
 IsRingAt v = IsRingIf v.ring
 
-weight-by : (pipe : Bool) (tx : Option OwnRing) → option_map_or (λ (r : OwnRing). waiting_of pipe r.ring) tx 0 ≡ option_map_or (waiting_of pipe) (option_map ring_of tx) 0
-weight-by pipe None = refl
-weight-by pipe (Some r) = refl
+weight-by : (c : Cost) (pipe : Bool) (tx : Option OwnRing) → option_map_or (λ (r : OwnRing). cost_of_ring c pipe r.ring) tx 0 ≡ option_map_or (cost_of_ring c pipe) (option_map ring_of tx) 0
+weight-by c pipe None = refl
+weight-by c pipe (Some r) = refl
 
-pub waiting-views : (s : OwnState) → waiting s ≡ total (views s)
-waiting-views s = over s.ports
+pub waiting-views : (c : Cost) (s : OwnState) → waiting c s ≡ total c (views s)
+waiting-views c s = over s.ports
   where
-    over : (ports : List OwnPort) → sum_by waiting_at ports ≡ total (map seen ports)
+    over : (ports : List OwnPort) → sum_by (waiting_at c) ports ≡ total c (map seen ports)
     over [] = refl
     over (p ∷ ports) =
-        let one = sum_by-cons waiting_at p ports in
-        let other = sum_by-cons weight (seen p) (map seen ports) in
-        let here = weight-by (is_pipe_name p.name) p.tx in
+        let one = sum_by-cons (waiting_at c) p ports in
+        let other = sum_by-cons (weight c) (seen p) (map seen ports) in
+        let here = weight-by c (is_pipe_name p.name) p.tx in
         let rest = over ports in
         omega (arith, one, other, here, rest)
 
@@ -83,21 +83,21 @@ module _ (id : ℕ) (g : RingState → RingState) where
   rest-same : (v : View) (vs : List View) → (v.id == id) ≡ true → Each (λ y. nat_eq v.id y ≡ false) (map id_seen vs) → map (view_if id g) vs ≡ vs
   rest-same v vs here apart = others-same id g vs (rw (eqb-true v.id id here) at apart)
 
-  pub total-changed : (vs : List View) (v : View) → IsDistinct nat_eq (map id_seen vs) → find (is_view_at id) vs ≡ Some v
-      → total (map (view_if id g) vs) + weight v ≡ total vs + weight (with_view g v)
+  pub total-changed : (c : Cost) (vs : List View) (v : View) → IsDistinct nat_eq (map id_seen vs) → find (is_view_at id) vs ≡ Some v
+      → total c (map (view_if id g) vs) + weight c v ≡ total c vs + weight c (with_view g v)
   unfolding IsDistinct
-  total-changed [] v apart found = absurd cc
-  total-changed (w ∷ vs) v apart found =
-      let old = sum_by-cons weight w vs in
+  total-changed c [] v apart found = absurd cc
+  total-changed c (w ∷ vs) v apart found =
+      let old = sum_by-cons (weight c) w vs in
       elim (cases_Bool (w.id == id)) [
         | inl here ↦ (let is : w ≡ v = (let first : Some w ≡ Some v = rw here at found in cc) in
-            let new = sum_by-cons weight (with_view g w) vs in
-            let same = ap (λ (ws : List View). total (with_view g w ∷ ws)) (rest-same w vs here apart.0) in
-            let one = ap weight is in
-            let two = ap (λ (x : View). weight (with_view g x)) is in
+            let new = sum_by-cons (weight c) (with_view g w) vs in
+            let same = ap (λ (ws : List View). total c (with_view g w ∷ ws)) (rest-same w vs here apart.0) in
+            let one = ap (weight c) is in
+            let two = ap (λ (x : View). weight c (with_view g x)) is in
             rw here (omega (arith, old, new, same, one, two)))
-        | inr other ↦ (let rest = total-changed vs v apart.1 (rw other at found) in
-            let new = sum_by-cons weight w (map (view_if id g) vs) in
+        | inr other ↦ (let rest = total-changed c vs v apart.1 (rw other at found) in
+            let new = sum_by-cons (weight c) w (map (view_if id g) vs) in
             rw other (omega (arith, old, new, rest)))
       ]
 
@@ -142,21 +142,21 @@ module _ (id : ℕ) (g : RingState → RingState) where
       by false = refl
 
   -- where the change of a ring makes nothing wait
-  pub total-less : ((pipe : Bool) (ring : RingState) → IsRing ring → waiting_of pipe (g ring) ≤ waiting_of pipe ring)
-      → (vs : List View) → Each IsRingAt vs → total (map (view_if id g) vs) ≤ total vs
-  total-less less [] rings = omega arith
-  total-less less (v ∷ vs) rings =
-      let one = sum_by-cons weight (view_if id g v) (map (view_if id g) vs) in
-      let other = sum_by-cons weight v vs in
-      let rest = total-less less vs rings.1 in
-      let here : weight (view_if id g v) ≤ weight v = by (v.id == id) v.ring refl rings.0 in
+  pub total-less : (c : Cost) → ((pipe : Bool) (ring : RingState) → IsRing ring → cost_of_ring c pipe (g ring) ≤ cost_of_ring c pipe ring)
+      → (vs : List View) → Each IsRingAt vs → total c (map (view_if id g) vs) ≤ total c vs
+  total-less c less [] rings = omega arith
+  total-less c less (v ∷ vs) rings =
+      let one = sum_by-cons (weight c) (view_if id g v) (map (view_if id g) vs) in
+      let other = sum_by-cons (weight c) v vs in
+      let rest = total-less c less vs rings.1 in
+      let here : weight c (view_if id g v) ≤ weight c v = by (v.id == id) v.ring refl rings.0 in
       omega (arith, one, other, rest, here)
     where
-      with-ring : (pipe : Bool) (ring : Option RingState) → IsRingIf ring → option_map_or (waiting_of pipe) (option_map g ring) 0 ≤ option_map_or (waiting_of pipe) ring 0
+      with-ring : (pipe : Bool) (ring : Option RingState) → IsRingIf ring → option_map_or (cost_of_ring c pipe) (option_map g ring) 0 ≤ option_map_or (cost_of_ring c pipe) ring 0
       with-ring pipe None is = omega arith
       with-ring pipe (Some ring) is = less pipe ring is
 
-      by : (b : Bool) (ring : Option RingState) → v.ring ≡ ring → IsRingIf v.ring → weight (cond b (with_view g v) v) ≤ weight v
+      by : (b : Bool) (ring : Option RingState) → v.ring ≡ ring → IsRingIf v.ring → weight c (cond b (with_view g v) v) ≤ weight c v
       by true ring is sound = with-ring v.pipe v.ring sound
       by false ring is sound = omega arith
 
@@ -228,16 +228,16 @@ seen-exchanged side id (x ∷ pushed) ports =
     seen-exchanged side id pushed (after_slot side id ports x) ∙ seen-swapped (buffer_on side id ports x.at) x.slot.buf_idx ports
 
 -- a port that goes takes its frames away
-pub total-filter : (test : OwnPort → Bool) (ports : List OwnPort) → total (map seen (filter test ports)) ≤ total (map seen ports)
-total-filter test [] = omega arith
-total-filter test (p ∷ ports) = by (test p) (total-filter test ports)
+pub total-filter : (c : Cost) (test : OwnPort → Bool) (ports : List OwnPort) → total c (map seen (filter test ports)) ≤ total c (map seen ports)
+total-filter c test [] = omega arith
+total-filter c test (p ∷ ports) = by (test p) (total-filter c test ports)
   where
-    by : (b : Bool) → total (map seen (filter test ports)) ≤ total (map seen ports) → total (map seen (cond b (p ∷ filter test ports) (filter test ports))) ≤ total (map seen (p ∷ ports))
+    by : (b : Bool) → total c (map seen (filter test ports)) ≤ total c (map seen ports) → total c (map seen (cond b (p ∷ filter test ports) (filter test ports))) ≤ total c (map seen (p ∷ ports))
     by true rest =
-        let one = sum_by-cons weight (seen p) (map seen (filter test ports)) in
-        let other = sum_by-cons weight (seen p) (map seen ports) in
+        let one = sum_by-cons (weight c) (seen p) (map seen (filter test ports)) in
+        let other = sum_by-cons (weight c) (seen p) (map seen ports) in
         omega (arith, rest, one, other)
-    by false rest = let other = sum_by-cons weight (seen p) (map seen ports) in omega (arith, rest, other)
+    by false rest = let other = sum_by-cons (weight c) (seen p) (map seen ports) in omega (arith, rest, other)
 
 -- ports that differ, with rings that are rings
 

@@ -1,42 +1,44 @@
 //! Laws of scripts that put few frames: their record never is full. Each function does nothing; its
 //! contract is a law about the definitions, which the check proves.
 
-ghost use Rattle.vale_cost.specs.Completeness.{HistoriesAreCheap, FramesThatFitHaveRoom, RoomIsNotRefused, UsersSpend, FewTasksFit, LinesCostLittle, SwitchesHaveFewPorts, SendsWantLittle, EntriesCostLittle, TurnsSpend};
+ghost use Rattle.vale_cost.specs.Completeness.{HistoriesAreCheap, CostThatFitsHasRoom, RoomIsNotRefused, UsersSpend, FewTasksFit, LinesCostLittle, SwitchesHaveFewPorts, SendsWantLittle, EntriesWantLittle, PortsWereOpened, TurnsSpend};
 ghost use Rattle.vale_cost.specs.FewFrames.{LightScriptsFit};
 
-/// A switch has at most 16 ports, open ones and shutting ones.
+/// A switch has no more ports, open ones and shutting ones, than the limits say.
 pub fn switches_have_few_ports()
     ensures { SwitchesHaveFewPorts }
 {}
 
-/// So the entry of a Send promises few others.
+/// The entry of a Send promises few others where each switch has few ports.
 pub fn sends_want_little()
     ensures { SendsWantLittle }
 {}
 
-/// Each entry costs few entries of room and few bytes for each frame that it takes from its user,
-/// and few entries more; a Grant, a Done, a Shut, a Finish and a Leave cost nothing, since they
-/// were promised.
-pub fn entries_cost_little()
-    ensures { EntriesCostLittle }
+/// So each Send of frames wants few entries of room, and each call few entries more; a Grant, a
+/// Done, a Shut, a Finish and a Leave want nothing, since they were promised.
+pub fn entries_want_little()
+    ensures { EntriesWantLittle }
 {}
 
-/// A turn of a user that writes no positions spends what its entry costs: of the frames that it has
+/// A switch has no more ports than were opened there.
+pub fn ports_were_opened()
+    ensures { PortsWereOpened }
+{}
+
+/// A turn of a user that writes no positions spends what its entry costs: of the slots that it has
 /// put or is to put those that the entry takes, and of the calls that its tasks make one.
 pub fn turns_spend()
     ensures { TurnsSpend }
 {}
 
-/// So what a history stores and promises is little for each frame that its entries took, and for
-/// each of its calls.
+/// So what a history stores and promises is little for each Send of frames, and for each of its calls.
 pub fn histories_are_cheap()
     ensures { HistoriesAreCheap }
 {}
 
-/// A record has room for a call where the frames taken before and by it, and the calls, are few for
-/// its limits.
-pub fn frames_that_fit_have_room()
-    ensures { FramesThatFitHaveRoom }
+/// A record has room for a call where what the entries cost before and by it is little for its limits.
+pub fn cost_that_fits_has_room()
+    ensures { CostThatFitsHasRoom }
 {}
 
 /// And a record that has room for a call does not refuse it as full.
@@ -62,7 +64,7 @@ pub fn lines_cost_little()
 {}
 
 /// So the tasks of a script that puts and plays few frames, and neither forwards frames nor moves
-/// positions, are few for the limits of version 1.
+/// positions, are few for the limits of version 2.
 pub fn light_scripts_fit()
     ensures { LightScriptsFit }
 {}

@@ -61,7 +61,7 @@ fn run_each(
 }
 
 impl Drive {
-    /// A drive with no entries, over a pool of so many buffers, all free. A pool has 1 to 65,536
+    /// A drive with no entries, over a pool of so many buffers, all free. A pool has 1 to 262,144
     /// buffers, and the limit on entries is below 2^32.
     pub fn new(alloc: Global, buffers: u32, limits: Limits) -> Result<Drive, NoMemory>
         requires pool { IsPoolSize buffers }

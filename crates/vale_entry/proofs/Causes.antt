@@ -28,17 +28,18 @@ next_by :
     → length (cond b (frame ∷ rest) []) < length (frame ∷ frames)
     → room < size_of_frames (take (length (cond b (frame ∷ rest) []) + 1) (frame ∷ frames))
 next_by frame frames rest room true t later few =
-    let fits : 1 ≤ room = leb-true 1 room t in
+    let fits : slots_of frame ≤ room = leb-true (slots_of frame) room t in
     let more = later (omega (arith, few)) in
     let count : length (frame ∷ rest) + 1 ≡ suc (length rest + 1) = omega arith in
     let sum :
     size_of_frames (frame ∷ take (length rest + 1) frames)
-    ≡ 1 + size_of_frames (take (length rest + 1) frames) =
+    ≡ slots_of frame + size_of_frames (take (length rest + 1) frames) =
     sum_by-cons slots_of frame (take (length rest + 1) frames) in
     rw count (omega (arith, fits, more, sum))
 next_by frame frames rest room false t later few =
-    let none : room < 1 = leb-false 1 room t in
-    let sum : size_of_frames (frame ∷ []) ≡ 1 + size_of_frames [] = sum_by-cons slots_of frame [] in
+    let none : room < slots_of frame = leb-false (slots_of frame) room t in
+    let sum : size_of_frames (frame ∷ []) ≡ slots_of frame + size_of_frames [] =
+    sum_by-cons slots_of frame [] in
     omega (arith, none, sum)
 
 fitting-next :

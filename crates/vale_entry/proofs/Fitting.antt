@@ -5,7 +5,9 @@ use Rattle.std.proofs.Common.{ℕ, ◌+◌, ◌*◌, ◌^◌, ◌<◌, ◌≤◌
 use Rattle.std.proofs.lemmas.Bool.{and_parts, leb-true, ltb-true, eqb-true, not-true}
 use Rattle.std.proofs.lemmas.List.{length-map}
 use Rattle.std.proofs.lemmas.List.Sums.{count_by-le-length, sum_by-cons}
+use Rattle.nm_types.specs.Limits.{most_batch}
 use Rattle.nm_types.specs.Frames.{Frame, slots_of}
+use Rattle.nm_types.proofs.Sizes.{length-size}
 use Rattle.nm_types.specs.Names.{is_monitor_name}
 use Rattle.nm_types.specs.SyncFaults.{is_check_fault}
 use Rattle.nm_types.specs.declared.fault.OpenFault.{OpenFault}
@@ -36,7 +38,6 @@ use Rattle.vale_entry.specs.Counters.{counts_of}
 use Rattle.vale_entry.specs.Fits.{FitsU64, FitsItem, FitsEntry, u64_widths, DestFits, RefusalFits, FaultFits, ReplyFits, CountsFits}
 use Rattle.vale_entry.specs.Legal.{Standing, standing_of, named_of, has_ring, fits_u32, fits_fault, unchanged, IsLegal, Follows}
 use Rattle.vale_entry.specs.Laws.{IsThere, IsGrantedBy, IsLotOf, is_monitor_open, IsWatch, LegalHistoriesFit}
-use Rattle.vale_entry.proofs.Slots.{frames-few}
 use Rattle.vale_entry.proofs.Each.{each-append, each-map, each-weaker, each-find, each-offered}
 use Rattle.vale_entry.proofs.ListLaws.{place-of, each-at, sum-flat_map}
 use Rattle.vale_entry.proofs.Counting.{contains-count}
@@ -122,8 +123,8 @@ fault-fits (faults.NotHeld slot idx) e = pair-fits slot idx e
 fault-fits (faults.Doubled slot idx) e = pair-fits slot idx e
 fault-fits (faults.Unannounced slot idx was) e = three-fit slot idx was e
 fault-fits (faults.LongLen slot len) e =
-    let parts = and_parts (fits_u32 slot) (nat_lt len 65536) e in
-    let short = ltb-true len 65536 parts.1 in
+    let parts = and_parts (fits_u32 slot) (nat_lt len (2 ^ 16)) e in
+    let short = ltb-true len (2 ^ 16) parts.1 in
     (small slot parts.0, omega (arith, short))
 fault-fits (faults.Fragment slot) e = small slot e
 fault-fits _ e = tt
@@ -195,7 +196,7 @@ each-flat P f (x ∷ xs) all = each-append P (f x) (flat_map f xs) all.0 (each-f
 
 unread-few : (port : Port) → unread_count port ≤ size_of_line port.line
 unread-few port =
-    let each = frames-few (flat_map frames_of_lot port.line) in
+    let each = length-size (flat_map frames_of_lot port.line) in
     let sum = sum-flat_map slots_of frames_of_lot port.line in
     omega (arith, each, sum)
 
@@ -309,7 +310,7 @@ module _ (s : Standing) (stands : Stands s.world.pool s) (pool : s.world.pool < 
       )
   quiet _ _ _ (finds_no_peer at offered p e less gone) =
       let here = open-at at p e in
-      let bound = leb-true offered 1023 less in
+      let bound = leb-true offered most_batch less in
       (here.0, (here.1, omega (arith, bound)), tt)
   quiet _ _ _ (finds_no_target at target sides p e can none) =
       let here = open-at at p e in (here.0, here.1, tt)
@@ -405,7 +406,7 @@ module _ (s : Standing) (stands : Stands s.world.pool s) (pool : s.world.pool < 
         (arith, line, less, fewer, pool)));
     puts = λ at offered items p peer e can found.
         let here = open-at at p e in
-        let batch = leb-true offered 1023 can.few in
+        let batch = leb-true offered most_batch can.few in
         let kept = kept-few s offered items p peer can found in
         let size = length-map items frame_of_item in (
           here.0,

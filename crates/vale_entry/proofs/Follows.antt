@@ -4,6 +4,7 @@ use Rattle.std.proofs.Common.{ℕ, ◌≡◌, Bool, true, false, cond, ◌&&◌,
 use Rattle.std.specs.Prelude.{option_map}
 use Rattle.std.specs.List.{list_all}
 use Rattle.std.proofs.lemmas.Bool.{and_parts, eqb-true}
+use Rattle.nm_types.specs.Limits.{most_batch}
 use Rattle.nm_types.specs.Frames.{Frame}
 use Rattle.nm_types.specs.Names.{is_name, is_switch_port_name, is_pipe_name, is_monitor_name}
 use Rattle.nm_types.specs.Sendable.{is_sendable}
@@ -59,7 +60,7 @@ pub record CanKeep (s : Standing) (offered : ℕ) (items : List Item) (port : Po
   pub settled : is_settled s.world port.session ≡ true
   pub sound : list_all is_pipe_item items ≡ true
   pub held : holds_all s.holdings port.session (indices_of items) ≡ true
-  pub few : nat_le offered 1023 ≡ true
+  pub few : nat_le offered most_batch ≡ true
   pub taken : length items ≡ taken_count (peer_of s.world.ports port) offered
 
 -- what is answered without a change: the ask, whose it is, and the reply
@@ -74,7 +75,7 @@ pub data IsQuiet (s : Standing) : Ask → ℕ → Reply → Type 0 where
       → IsQuiet s (Reset at side fault) port.session Made
   finds_no_peer :
       (at : PortId) (offered : ℕ) (port : Port) → open_port s.world.ports at.0 ≡ Some port
-      → nat_le offered 1023 ≡ true → peer_of s.world.ports port ≡ None
+      → nat_le offered most_batch ≡ true → peer_of s.world.ports port ≡ None
       → IsQuiet s (PutKept at offered) port.session PeerGone
   finds_no_target :
       (at : PortId) (target : List ℕ) (sides : Sides) (port : Port)
@@ -175,7 +176,7 @@ can-keep s offered items port can =
     &&
     (is_settled s.world port.session
     && (list_all is_pipe_item items && holds_all s.holdings port.session (indices_of items))))
-    (nat_le offered 1023 && (length items == taken_count (peer_of s.world.ports port) offered)) can
+    (nat_le offered most_batch && (length items == taken_count (peer_of s.world.ports port) offered)) can
     in
     let pipe =
     and_parts (is_pipe_name port.name)
@@ -189,7 +190,7 @@ can-keep s offered items port can =
     and_parts (list_all is_pipe_item items) (holds_all s.holdings port.session (indices_of items))
     settled.1 in
     let count =
-    and_parts (nat_le offered 1023)
+    and_parts (nat_le offered most_batch)
     (length items == taken_count (peer_of s.world.ports port) offered) outer.1 in
     record {
       pipe = pipe.0;

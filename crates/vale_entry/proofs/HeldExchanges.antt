@@ -11,7 +11,7 @@ use Rattle.vale_entry.specs.Delivery.{is_done_lot, ready_lots, delivered_frames,
 use Rattle.vale_entry.specs.Holdings.{holds_all, Holdings, PortBuffers, SessionBuffers, PortAgrees, is_buffer_index, contains, are_distinct, due_of_session, sessions_given, sessions_less, buffers_without, buffers_of_session, delivered_buffers, changed_buffers, with_returned, holdings_after_sync, with_put_buffers, first_idle, holdings_after_put}
 use Rattle.vale_entry.specs.Legal.{Standing, sync_step, put_step}
 use Rattle.vale_entry.specs.Laws.{Rise, id_of_port, id_of_held, id_of_session, IsThere, IsPortOf}
-use Rattle.vale_entry.specs.Pipe.{peer_of, index_of_item, indices_of, frames_of_items, port_after_put}
+use Rattle.vale_entry.specs.Pipe.{peer_of, index_of_item, indices_of, frames_of_items, port_after_put, is_pipe_item}
 use Rattle.vale_entry.specs.declared.entry.Item.{Item}
 use Rattle.vale_entry.proofs.Follows.{CanReceive, CanKeep}
 use Rattle.vale_entry.proofs.ListLaws.{each-at, sum-at, sum-set, sum-flat_map}
@@ -255,15 +255,16 @@ held_synced s back id port e can n roomy h =
 -- Put
 agrees-put :
     (number session : ℕ) (items : List Item) (peer : Port) (held : PortBuffers)
-    → length items ≤ space_of peer → HasRoom peer → PortAgrees peer held
+    → list_all is_pipe_item items ≡ true → length items ≤ space_of peer → HasRoom peer
+    → PortAgrees peer held
     → PortAgrees (port_after_put number session (frames_of_items items) peer)
     (with_put_buffers (indices_of items) held)
-agrees-put number session [] peer held few room a = a
-agrees-put number session (item ∷ items) peer held few room a =
+agrees-put number session [] peer held sound few room a = a
+agrees-put number session (item ∷ items) peer held sound few room a =
     let taken = indices_of (item ∷ items) in
     let frames = frames_of_items (item ∷ items) in
     let count : length taken ≡ length (item ∷ items) = length-map (item ∷ items) index_of_item in
-    let size = items-size (item ∷ items) in
+    let size = items-size (item ∷ items) sound in
     let some : (length taken == 0) ≡ false = ne_eqb (length taken) 0 (λ e. omega (arith, e)) in
     let idle = a.idle in
     let left = length-drop (length taken) held.idle in
@@ -317,7 +318,7 @@ put-at :
     (user : SessionPlace x.sessions session) → Rise 0 (map id_of_held x.ports) high
     → Rise 0 (map id_of_session x.sessions) high
     → slice_get x.ports p.place ≡ Some held → PortAgrees peer held → HasRoom peer
-    → length items ≤ space_of peer
+    → list_all is_pipe_item items ≡ true → length items ≤ space_of peer
     → list_all (λ b. contains b user.held.buffers) (indices_of items) ≡ true
     → are_distinct (indices_of items) ≡ true
     → AreHeld pool sessions ports x
@@ -325,7 +326,7 @@ put-at :
     (changed_at peer.id (port_after_put number session (frames_of_items items)) ports)
     (holdings_after_put peer.id session (indices_of items) x)
 put-at pool high number sessions ports x items session peer p held user held_rise user_rise f a
-    room few within distinct h =
+    room sound few within distinct h =
     let taken = indices_of items in
     let change = port_after_put number session (frames_of_items items) in
     let move = with_put_buffers taken in
@@ -368,7 +369,7 @@ put-at pool high number sessions ports x items session peer p held user held_ris
       ports_agree =
           rw (ports_are, helds_are)
           (zip-set PortAgrees ports x.ports p.place (change peer) (move held) h.ports_agree
-          (agrees-put number session items peer held few room a));
+          (agrees-put number session items peer held sound few room a));
       session_ids = users-named x.sessions user after_user _ users_are refl ∙ h.session_ids;
       dues = rw (ports_are, users_are) dues;
       parted = λ b.
@@ -400,4 +401,4 @@ held_put s id offered items port peer e can found n roomy h =
     put-at w.pool w.entry_count (w.entry_count + 1) w.sessions w.ports x items port.session peer p
     a.held holds.user (rw (agree-ids w.ports x.ports h.ports_agree) n.ports_rise) holds.rise a.here
     a.agrees (each-at HasRoom w.ports p.place peer roomy.roomy p.here)
-    (taken-few s offered items port peer can found) holds.within holds.distinct h
+    can.sound (taken-few s offered items port peer can found) holds.within holds.distinct h

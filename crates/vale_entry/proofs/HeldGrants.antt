@@ -6,6 +6,7 @@ use Rattle.std.proofs.lemmas.List.Sums.{sum_by-cons, sum_by_push, sum_by-take-dr
 use Rattle.std.proofs.lemmas.List.Concat.{flat_map-append}
 use Rattle.std.proofs.lemmas.Bool.{eqb-true, eqb-false, eq-eqb, ne_eqb}
 use Rattle.nm_types.specs.Frames.{Frame, slots_of, size_of_frames}
+use Rattle.nm_types.proofs.PartLemmas.{slots-some}
 use Rattle.vale_entry.specs.World.{Port, Lot, Offer, is_session, open_port, changed_at, space_of, due_of, buffers_of}
 use Rattle.vale_entry.specs.Opening.{open_refusal, opened_port}
 use Rattle.vale_entry.specs.Grant.{longest_fitting, given_at, port_after_grant}
@@ -189,8 +190,9 @@ agrees-granted :
 agrees-granted number session [] port held few room a = a
 agrees-granted number session (frame ∷ frames) port held few room a =
     let given = frame ∷ frames in
-    let size : size_of_frames given ≡ 1 + size_of_frames frames =
+    let size : size_of_frames given ≡ slots_of frame + size_of_frames frames =
     sum_by-cons slots_of frame frames in
+    let first = slots-some (length frame.bytes) in
     let some : (size_of_frames given == 0) ≡ false =
     ne_eqb (size_of_frames given) 0 (λ e. omega arith) in
     let idle = a.idle in

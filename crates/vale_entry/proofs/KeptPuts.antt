@@ -4,6 +4,7 @@ use Rattle.std.proofs.Common.{ℕ, zero, suc, ◌≡◌, Bool, true, false, cond
 use Rattle.std.specs.List.{list_all}
 use Rattle.std.proofs.lemmas.Bool.{and_parts, eq-eqb, not-true}
 use Rattle.std.proofs.lemmas.List.{length-take-le}
+use Rattle.nm_types.specs.Limits.{most_batch}
 use Rattle.nm_types.specs.Names.{is_pipe_name}
 use Rattle.vale_entry.specs.declared.entry.Item.{Item}
 use Rattle.vale_entry.specs.World.{Port, open_port, space_of, is_settled}
@@ -85,7 +86,7 @@ keep-take : (s : Standing) (port : Port) (offered : List Item) → can_put s off
     (take (taken_count (peer_of s.world.ports port) (length offered)) offered) port
     ≡ true
 keep-take s port offered can =
-    let parts = and_parts (can_offer s offered port) (nat_le (length offered) 1023) can in
+    let parts = and_parts (can_offer s offered port) (nat_le (length offered) most_batch) can in
     let n : ℕ = taken_count (peer_of s.world.ports port) (length offered) in
     let front = offer-take s port n offered parts.0 in
     let count : (length (take n offered) == n) ≡ true =

@@ -1,6 +1,5 @@
 pub mod Worlds
 pub mod Steps
-pub mod Slots
 pub mod ListLaws
 pub mod Each
 pub mod Spans
@@ -57,6 +56,7 @@ pub mod Within
 pub mod Fitting
 pub mod PairsOfSwitch
 pub mod CountersSummed
+pub mod LinesOfFrames
 pub mod LotsOfEntries
 pub mod HistoryPlaces
 pub mod ItemBytes

@@ -1,9 +1,10 @@
 -- After every legal history no lot is empty, each port has a slot to spare, and the ports have no
 -- more buffers than the pool.
 use Rattle.std.proofs.Common.{ℕ, ◌+◌, ◌-◌, ◌≤◌, ◌≡◌, Bool, true, false, cond, not, ◌&&◌, nat_lt, nat_le, ◌==◌, List, [], ◌∷◌, ◌++◌, map, length, drop, sum_by, Option, Some, None, refl, ap, arith, min, ◌∙◌}
-use Rattle.std.specs.List.{AllByRecursion as Each, prefix_len}
+use Rattle.std.specs.List.{AllByRecursion as Each, list_all, prefix_len}
 use Rattle.std.proofs.lemmas.List.Sums.{sum_by-cons, sum_by-append, sum_by_push}
 use Rattle.std.proofs.lemmas.Bool.{and_parts, ltb-false, leb-true}
+use Rattle.nm_types.specs.Limits.{most_extra, most_ring}
 use Rattle.nm_types.specs.Frames.{Frame, slots_of, size_of_frames}
 use Rattle.nm_types.specs.declared.fault.OpenFault.{OpenFault}
 use Rattle.nm_types.specs.declared.fault.OpenFault.TheVariants.{BadSize, NoBuffers}
@@ -16,7 +17,9 @@ use Rattle.vale_entry.specs.Delivery.{is_done_lot, ready_lots, frames_of_lot, de
 use Rattle.vale_entry.specs.Closing.{shut}
 use Rattle.vale_entry.specs.Legal.{Standing, Outcome, after, open_step_by, grant_step, sync_step, shut_step, finish_step, done_step, put_step}
 use Rattle.vale_entry.specs.Laws.{Rise, id_of_port, IsFilled}
-use Rattle.vale_entry.specs.Pipe.{peer_of, taken_count, frames_of_items, port_after_put}
+use Rattle.nm_types.specs.Sendable.{fits_buffer}
+use Rattle.nm_types.proofs.PartLemmas.{slots-one}
+use Rattle.vale_entry.specs.Pipe.{peer_of, taken_count, frames_of_items, is_pipe_item, port_after_put}
 use Rattle.vale_entry.specs.declared.entry.Item.{Item}
 use Rattle.vale_entry.proofs.Follows.{EachKind, after-by, CanKeep}
 use Rattle.vale_entry.proofs.ListLaws.{each-at, each-set, sum-map_same, sum-flat_map, front-rest}
@@ -58,9 +61,9 @@ opened-room w name tx rx extra e =
     let parts =
     room-none (names_refusal (names_of w.ports) name tx rx extra) (tx + rx + extra) (free_count w) e in
     let sizes = sizes_by (are_sizes name tx rx extra) _ parts.0 in
-    let rings = and_parts _ (is_ring_size rx && nat_le extra 1024) sizes in
-    let ring = and_parts (is_ring_size rx) (nat_le extra 1024) rings.1 in
-    let least = and_parts (nat_le 2 rx) (nat_le rx 1024) ring.0 in
+    let rings = and_parts _ (is_ring_size rx && nat_le extra most_extra) sizes in
+    let ring = and_parts (is_ring_size rx) (nat_le extra most_extra) rings.1 in
+    let least = and_parts (nat_le 2 rx) (nat_le rx most_ring) ring.0 in
     (parts.1, leb-true 2 rx least.0)
 
 -- the ready lots and those behind them
@@ -111,8 +114,8 @@ fitting_by :
     → size_of_frames (cond b (frame ∷ more) []) ≤ room
 fitting_by frame room more false t rest = omega arith
 fitting_by frame room more true t rest =
-    let fits : 1 ≤ room = leb-true 1 room t in
-    let sum : size_of_frames (frame ∷ more) ≡ 1 + size_of_frames more =
+    let fits : slots_of frame ≤ room = leb-true (slots_of frame) room t in
+    let sum : size_of_frames (frame ∷ more) ≡ slots_of frame + size_of_frames more =
     sum_by-cons slots_of frame more in
     omega arith
 
@@ -156,13 +159,18 @@ granted-room number session frames port h =
     lot-room number session false (longest_fitting (space_of port) frames) port
     (longest_fitting-size (space_of port) frames) h
 
--- items take one slot each
-pub items-size : (items : List Item) → size_of_frames (frames_of_items items) ≡ length items
-items-size [] = refl
-items-size (item ∷ items) =
-    let rest = items-size items in
+-- items of a pipe take one slot each
+pub items-size :
+    (items : List Item) → list_all is_pipe_item items ≡ true
+    → size_of_frames (frames_of_items items) ≡ length items
+items-size [] sound = refl
+items-size (item ∷ items) sound =
+    let parts = and_parts (is_pipe_item item) (list_all is_pipe_item items) sound in
+    let fits = (and_parts (fits_buffer item.bytes) (not item.bytes.no_learn) parts.0).0 in
+    let one = slots-one (length item.bytes.bytes) (leb-true (length item.bytes.bytes) 2048 fits) in
+    let rest = items-size items parts.1 in
     let sum = sum_by-cons slots_of item.bytes (frames_of_items items) in
-    omega (arith, rest, sum)
+    omega (arith, rest, sum, one)
 
 -- no more of them are taken than there is space for
 pub taken-few :
@@ -209,7 +217,7 @@ roomy_put s offered items port peer can found numbered n =
     let w = s.world in
     let p = peer-place w.ports w.entry_count port peer numbered.ports_rise found in
     let few = taken-few s offered items port peer can found in
-    let size = items-size items in
+    let size = items-size items can.sound in
     let change = port_after_put (w.entry_count + 1) port.session (frames_of_items items) in
     let old : HasRoom peer = each-at HasRoom w.ports p.place peer n.roomy p.here in
     record {

@@ -1,16 +1,18 @@
 -- What a legal history counts stays within bounds: an offer has no more frames than a batch or the
 -- pool; each entry counts less than 2^32 at a port.
 use Rattle.std.specs.List.{AllByRecursion as Each, list_all}
-use Rattle.std.proofs.Common.{ℕ, ◌+◌, ◌*◌, ◌<◌, ◌≤◌, ◌≡◌, Bool, true, false, cond, not, ◌&&◌, ◌==◌, nat_le, List, [], ◌∷◌, ◌++◌, map, filter, find, length, min, sum_by, count_by, Option, Some, None, refl, sym, ◌∙◌, ap, subst, arith, slice_get, le_trans}
+use Rattle.std.proofs.Common.{ℕ, ◌+◌, ◌-◌, ◌*◌, ◌^◌, ◌<◌, ◌≤◌, ◌≡◌, Bool, true, false, cond, not, ◌&&◌, ◌==◌, nat_le, List, [], ◌∷◌, ◌++◌, map, filter, find, length, min, sum_by, count_by, Option, Some, None, refl, sym, ◌∙◌, ap, subst, arith, slice_get, le_trans}
 use Rattle.std.proofs.lemmas.Bool.{and_parts, leb-true}
 use Rattle.std.proofs.lemmas.List.{length-map}
 use Rattle.std.proofs.lemmas.List.Sums.{count_by-le-length}
+use Rattle.nm_types.specs.Limits.{most_batch}
 use Rattle.nm_types.specs.Frames.{Frame, size_of_frames}
-use Rattle.nm_types.specs.Sendable.{is_sendable, fits_buffer}
+use Rattle.nm_types.specs.Sendable.{is_sendable, fit_slots}
 use Rattle.nm_types.specs.Names.{is_switch_port_name}
 use Rattle.nm_types.specs.Counters.{zero_counts, sum_of_counts}
 use Rattle.nm_types.specs.declared.id.Counts.{Counts}
 use Rattle.nm_types.specs.declared.id.PortId.{PortId}
+use Rattle.nm_types.proofs.Sizes.{length-size}
 use Rattle.vale_entry.specs.declared.entry.Ask.{Ask}
 use Rattle.vale_entry.specs.declared.entry.Ask.TheVariants.{Enter, Open, Send, Grant, Done, Shut, Finish, Leave, PutKept, Watch}
 use Rattle.vale_entry.specs.declared.entry.Dest.{Dest}
@@ -28,7 +30,6 @@ use Rattle.vale_entry.specs.Pipe.{peer_of, taken_count, frame_of_item, frames_of
 use Rattle.vale_entry.specs.Counters.{counts_if, count_sent, count_shared, count_gave_at, counted_in, with_counted}
 use Rattle.vale_entry.specs.Legal.{Standing, Outcome, standing_of, world_of, named_of, can_send, offers_of_send, offers_of_sync, unchanged, enter_step, open_step_by, send_step, grant_step, done_step, sync_step, put_step, watch_step, shut_step, finish_step, leave_step, IsLegal, Follows}
 use Rattle.vale_entry.specs.Laws.{id_of_port, IsThere, IsPortOf}
-use Rattle.vale_entry.proofs.Slots.{frames-few}
 use Rattle.vale_entry.proofs.Each.{each-append, each-map, each-all, each-find, each-offered, each-without_first}
 use Rattle.vale_entry.proofs.ListLaws.{place-of, each-at, sum-at}
 use Rattle.vale_entry.proofs.Rising.{rise-within}
@@ -121,29 +122,29 @@ monitored-few monitor frames port = by_test (is_monitor monitor port)
 pub delivered-few : (port : Port) → length (delivered_frames port) ≤ size_of_line port.line
 delivered-few port =
     let sizes = delivered-size port in
-    let each = frames-few (delivered_frames port) in
+    let each = length-size (delivered_frames port) in
     omega (arith, sizes, each)
 
 pub sent-few :
     (w : World) (frames : List Frame) (port : Port) → can_send w frames port ≡ true
-    → length frames ≤ 1023
+    → length frames ≤ most_batch
 sent-few w frames port can =
     let named =
     and_parts (is_switch_port_name port.name) (is_settled w port.session && is_sendable frames) can
     in
     let settled = and_parts (is_settled w port.session) (is_sendable frames) named.1 in
-    leb-true (length frames) 1023
-    (and_parts (nat_le (length frames) 1023)
-    (nat_le (size_of_frames frames) 1023 && list_all fits_buffer frames) settled.1).0
+    leb-true (length frames) most_batch
+    (and_parts (nat_le (length frames) most_batch)
+    (fit_slots most_batch frames) settled.1).0
 
 pub kept-few :
     (s : Standing) (offered : ℕ) (items : List Item) (port peer : Port)
     → CanKeep s offered items port
-    → peer_of s.world.ports port ≡ Some peer → length items ≤ 1023
+    → peer_of s.world.ports port ≡ Some peer → length items ≤ most_batch
 kept-few s offered items port peer can found =
     let taken : length items ≡ min offered (space_of peer) =
     can.taken ∙ ap (λ (o : Option Port). taken_count o offered) found in
-    let few = leb-true offered 1023 can.few in
+    let few = leb-true offered most_batch can.few in
     omega (arith, taken, few)
 
 -- Offers.
@@ -209,7 +210,7 @@ shared-under (Some port) frames few =
       read = omega arith;
     }
 
-under-sent : (n : ℕ) → n ≤ 1023 → IsUnder 1023 (record zero_counts { sent = n })
+under-sent : (n : ℕ) → n ≤ most_batch → IsUnder most_batch (record zero_counts { sent = n })
 under-sent n few = record {
   sent = few;
   short = omega arith;
@@ -219,7 +220,7 @@ under-sent n few = record {
   read = omega arith;
 }
 
-under-given : (n : ℕ) → n ≤ 1023 → IsUnder 4294966272 (record zero_counts { given = n })
+under-given : (n : ℕ) → n ≤ most_batch → IsUnder (2 ^ 32 - 1 - most_batch) (record zero_counts { given = n })
 under-given n few = record {
   sent = omega arith;
   short = omega arith;
@@ -229,16 +230,16 @@ under-given n few = record {
   read = omega arith;
 }
 
-put-under : (n : ℕ) (one two : Bool) → n ≤ 1023
+put-under : (n : ℕ) (one two : Bool) → n ≤ most_batch
     → IsUnder 4294967295
     (sum_of_counts (counts_if one (record zero_counts { sent = n }))
     (counts_if two (record zero_counts { given = n })))
 put-under n one two few =
-    under-sum 1023 4294966272 _ _
-    (under-if 1023 one (record zero_counts { sent = n }) (under-sent n few))
-    (under-if 4294966272 two (record zero_counts { given = n }) (under-given n few))
+    under-sum most_batch (2 ^ 32 - 1 - most_batch) _ _
+    (under-if most_batch one (record zero_counts { sent = n }) (under-sent n few))
+    (under-if (2 ^ 32 - 1 - most_batch) two (record zero_counts { given = n }) (under-given n few))
 
-sent-under : (frames : List Frame) (lone : ℕ) (to : List Dest) → length frames ≤ 1023 → lone ≤ 1023
+sent-under : (frames : List Frame) (lone : ℕ) (to : List Dest) → length frames ≤ most_batch → lone ≤ most_batch
     → IsUnder 4294967295 (count_sent frames (Offered (count_by is_short frames) lone to))
 sent-under frames lone to few alone =
     let short = count_by-le-length is_short frames in

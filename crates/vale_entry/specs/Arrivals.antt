@@ -1,9 +1,10 @@
--- The buffers that an entry brings to its session, each with the bytes of the frame in it; all its
--- other bytes are zero.
+-- The buffers that an entry brings to its session, each with the part of a frame in it; all its other
+-- bytes are zero.
 use Rattle.std.specs.Prelude.{ℕ, ◌+◌, List, [], ◌++◌, length, map, take, drop}
 use Rattle.std.specs.Option.{option_map_or}
 use Rattle.std.specs.List.{zip}
 use Rattle.nm_types.specs.Frames.{Frame}
+use Rattle.nm_types.specs.Parts.{HeldPart, cut_frames}
 use Rattle.nm_types.specs.OwnPorts.{Arrival}
 use Rattle.vale_entry.specs.declared.entry.Ask.{Ask}
 use Rattle.vale_entry.specs.declared.entry.Ask.TheVariants.{Open, Sync, Get, PutKept}
@@ -16,10 +17,14 @@ use Rattle.vale_entry.specs.Pipe.{peer_of}
 use Rattle.vale_entry.specs.Legal.{Standing}
 
 abbrev pub blank_arrival : ℕ → Arrival
-blank_arrival buffer = record { buffer = buffer; bytes = [] }
+blank_arrival buffer = record { buffer = buffer; bytes = []; rest = 0 }
 
-abbrev pub frame_arrival : ℕ × Frame → Arrival
-frame_arrival (buffer, frame) = record { buffer = buffer; bytes = frame.bytes }
+abbrev pub part_arrival : ℕ × HeldPart → Arrival
+part_arrival (buffer, part) = record { buffer = buffer; bytes = part.bytes; rest = part.rest }
+
+-- the parts of the frames that are ready at a port, as they lie in buffers
+abbrev pub delivered_parts : Port → List HeldPart
+delivered_parts port = cut_frames (map (λ (frame : Frame). frame.bytes) (delivered_frames port))
 
 -- an opening: the smallest free buffers for the transmit slots, and those behind the receive ring's
 -- for the extra positions
@@ -27,12 +32,12 @@ abbrev pub opened_arrivals : ℕ → ℕ → ℕ → List ℕ → List Arrival
 opened_arrivals tx rx extra free =
     map blank_arrival (take tx free ++ take extra (drop (tx + rx) free))
 
--- a sync: the frames that are ready at the port, each in its buffer
+-- a sync: the frames that are ready at the port, each part in its buffer
 abbrev pub given_arrivals : Standing → Port → List Arrival
 given_arrivals s port =
-    map frame_arrival
+    map part_arrival
     (zip (delivered_buffers port.id (length (ready_lots port)) s.holdings.ports)
-    (delivered_frames port))
+    (delivered_parts port))
 
 -- a put: the first idle buffers of the other end, one for each frame taken
 abbrev pub lent_arrivals : List PortBuffers → ℕ → ℕ → List Arrival

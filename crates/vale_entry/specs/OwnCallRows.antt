@@ -64,7 +64,7 @@ openings_bring = refl
 
 sync_brings :
     arrivals_of (standing_of 64 (take 7 history)) (Sync (port 4) []) (Gave 1 [])
-    ≡ record { buffer = 14; bytes = frame_f.bytes } ∷ []
+    ≡ record { buffer = 14; bytes = frame_f.bytes; rest = 0 } ∷ []
 unfolding is_name is_switch_port_name is_pipe_name is_monitor_name switch_of
 sync_brings = refl
 
@@ -145,7 +145,7 @@ offers_both = refl
 offers_the_other :
     tx_call_at 3
     (own_after 5 (entry 1 (PutKept (port 3) 2) (Took (item 2 ∷ []) []))
-    (record { buffer = 12; bytes = [] } ∷ []) pipe_user)
+    (record { buffer = 12; bytes = []; rest = 0 } ∷ []) pipe_user)
     ≡ Some (Put (port 3) (item 3 ∷ []))
 unfolding is_name is_switch_port_name is_pipe_name is_monitor_name switch_of
 offers_the_other = refl

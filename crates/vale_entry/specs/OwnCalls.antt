@@ -38,7 +38,7 @@ offered_items s r = map (item_at s r) (offered_slots r)
 -- a transmit sync sends the frames pushed, or on a pipe offers those still pushed and then those
 -- pushed now
 abbrev pub tx_call : OwnState → OwnPort → OwnRing → Ask
-tx_call s p r = or_reset (refusal_in Tx s r) p.id Tx
+tx_call s p r = or_reset (refusal_in Tx s p r) p.id Tx
     (if is_pipe_name p.name then Put p.id (offered_items s r)
     else Send p.id (pushed_frames (bytes_at s) (pushed_in Tx r)))
 
@@ -48,7 +48,7 @@ back_in p = pushed_names (pushed_in Rx p.rx)
 
 abbrev pub rx_call : OwnState → OwnPort → Ask
 rx_call s p =
-    or_reset (refusal_in Rx s p.rx) p.id Rx
+    or_reset (refusal_in Rx s p p.rx) p.id Rx
     (if is_pipe_name p.name then Get p.id (back_in p) else Sync p.id (back_in p))
 
 -- a detach names the buffers in the port's places, and says what its chain of extra buffers found

@@ -1,7 +1,8 @@
 -- Worked examples of pipes, monitors, counters and resets, of what an opening is refused for, and
 -- of asks that are not enabled.
-use Rattle.std.specs.Prelude.{ℕ, ◌≡◌, ◌+◌, ◌∷◌, ◌++◌, List, [], Option, Some, None, map, take, replicate, codes, refl, option_map}
+use Rattle.std.specs.Prelude.{ℕ, ◌≡◌, ◌+◌, ◌*◌, ◌∷◌, ◌++◌, List, [], Option, Some, None, map, take, drop, replicate, codes, refl, option_map}
 use Rattle.std.specs.List.{range_with_len}
+use Rattle.nm_types.specs.Limits.{most_switch_ports}
 use Rattle.nm_types.specs.Names.{is_name, is_switch_port_name, is_pipe_name, is_monitor_name, switch_of, peer_name}
 use Rattle.nm_types.specs.OwnPorts.{Arrival}
 use Rattle.nm_types.specs.declared.fault.OpenFault.{OpenFault}
@@ -304,7 +305,7 @@ runs-legal : AreLegal 64 runs
 unfolding is_name is_switch_port_name is_pipe_name is_monitor_name switch_of peer_name
 runs-legal = are_legal 64 runs refl
 
--- The sizes of rings, from 2 to 1024, and of a monitor's transmit ring, which has none; a name that is
+-- The sizes of rings, from 2 to 4096, and of a monitor's transmit ring, which has none; a name that is
 -- none makes no entry.
 abbrev pub one_session : Standing
 one_session = standing_of 8192 (take 1 first_run)
@@ -314,20 +315,21 @@ opens name tx rx extra = Open (session 1) name tx rx extra
 
 sizes :
     map (reply_to one_session)
-    (opens (codes "vale0:a") 1024 1024 1024
-    ∷ opens (codes "vale0:a") 1025 2 0
-    ∷ opens (codes "vale0:a") 2 1025 0
+    (opens (codes "vale0:a") 4096 2048 1024
+    ∷ opens (codes "vale0:a") 2048 4096 1024
+    ∷ opens (codes "vale0:a") 4097 2 0
+    ∷ opens (codes "vale0:a") 2 4097 0
     ∷ opens (codes "vale0:a") 2 2 1025
     ∷ opens (codes "monm") 2 2 0
     ∷ opens (codes "vale0:a") 0 2 0
     ∷ opens (codes "pipep{") 0 2 0
     ∷ opens (codes "vale") 2 2 0
     ∷ [])
-    ≡ Some Opened ∷ replicate 6 (Some (Refused BadSize)) ++ None ∷ []
+    ≡ Some Opened ∷ Some Opened ∷ replicate 6 (Some (Refused BadSize)) ++ None ∷ []
 unfolding is_name is_switch_port_name is_pipe_name is_monitor_name switch_of peer_name
 sizes = refl
 
--- A switch has 16 ports, and there are 32 pipe ends and 32 monitors; ports that are shut count.
+-- A switch has 254 ports, and there are 32 pipe ends and 32 monitors; ports that are shut count.
 abbrev named : ℕ → List ℕ → Port
 named id name = opened_port id 1 name 2 2 0
 
@@ -342,17 +344,22 @@ letters = range_with_len 65 16
 abbrev name_refusal : List Port → List ℕ → ℕ → ℕ → ℕ → Option OpenFault
 name_refusal ports name tx rx extra = names_refusal (names_of ports) name tx rx extra
 
-abbrev sixteen : List Port
-sixteen = all_named 2 (codes "vale0:") letters
+-- the ports of a switch that has all that it may, each name of two letters
+abbrev two_lettered : List ℕ → List ℕ → List Port
+two_lettered before [] = []
+two_lettered before (b ∷ bs) = all_named (2 + 16 * b) (before ++ b ∷ []) letters ++ two_lettered before bs
+
+abbrev all_ports : List Port
+all_ports = take most_switch_ports (two_lettered (codes "vale0:") letters)
 
 ports_of_switch :
-    name_refusal (all_named 2 (codes "vale0:") (take 15 letters)) (codes "vale0:zz") 2 2 0
-    ∷ name_refusal sixteen (codes "vale1:zz") 2 2 0
-    ∷ name_refusal sixteen (codes "vale0:zz") 2 2 0
-    ∷ name_refusal (map shut sixteen) (codes "vale0:zz") 2 2 0
-    ∷ name_refusal sixteen (codes "vale0:A") 2 2 0
-    ∷ open_refusal (record (empty_world 64) { ports = sixteen }) (codes "vale0:zz") 2 2 0
-    ∷ name_refusal sixteen (codes "vale0:A") 1 2 0
+    name_refusal (drop 1 all_ports) (codes "vale0:zz") 2 2 0
+    ∷ name_refusal all_ports (codes "vale1:zz") 2 2 0
+    ∷ name_refusal all_ports (codes "vale0:zz") 2 2 0
+    ∷ name_refusal (map shut all_ports) (codes "vale0:zz") 2 2 0
+    ∷ name_refusal all_ports (codes "vale0:AA") 2 2 0
+    ∷ open_refusal (record (empty_world 64) { ports = all_ports }) (codes "vale0:zz") 2 2 0
+    ∷ name_refusal all_ports (codes "vale0:AA") 1 2 0
     ∷ []
     ≡ None ∷ None ∷ replicate 4 (Some PortsFull) ++ Some BadSize ∷ []
 unfolding is_name is_switch_port_name is_pipe_name is_monitor_name switch_of peer_name

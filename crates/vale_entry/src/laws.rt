@@ -3,7 +3,7 @@
 #![tactic(auto, using(crate::proofs::HistoryLaws::history_laws))]
 
 ghost use Rattle.vale_entry.specs.DeliveryLaws.{ReadIsPrefixOfGiven, GivenOnlyByWanted, ShortAndLoneAreForNobody, SendsTellShortAndLone, RepliesNameTheWanting, WantedIsSharedOnce, DroppedFramesAreCounted, NothingIsPendingAtTheEnd, SenderOrderIsKept, FramesAreDroppedForCause, RepliesCountFrames, PutsBringOnce, PutsAreOfReply, OutIsCounted, CountersAreSums, LeasesAreDoneOnce};
-ghost use Rattle.vale_entry.specs.Laws.{AsksAreAnswered, PutsAreKept, FinishWaitsForLeases, NamesDiffer, OffersClimb, CountersAreKept, NumbersRise, PortsAreWithinSizes, FreeBuffersRise, FreeBuffersReturn, BuffersAreParted, HoldingsAgree, SessionsHaveOneUnsettled, PairsAreOfSwitch, WatchesAreOpen, LotsAreSingle, LotsAreOfEntries, RoomIsPromised, RoomIsUsed, LegalHistoriesFit, LegalHistoriesArePrintable, SpansAreOfNumbers, SpansTellNumbers};
+ghost use Rattle.vale_entry.specs.Laws.{AsksAreAnswered, PutsAreKept, FinishWaitsForLeases, NamesDiffer, OffersClimb, CountersAreKept, NumbersRise, PortsAreWithinSizes, FreeBuffersRise, FreeBuffersReturn, BuffersAreParted, HoldingsAgree, SessionsHaveOneUnsettled, PairsAreOfSwitch, WatchesAreOpen, LinesHaveFrames, LotsAreSingle, LotsAreOfEntries, RoomIsPromised, RoomIsUsed, LegalHistoriesFit, LegalHistoriesArePrintable, SpansAreOfNumbers, SpansTellNumbers};
 
 /// The table of the asks that are enabled says which asks are answered.
 pub fn asks_are_answered()
@@ -90,6 +90,11 @@ pub fn watches_are_open()
 /// After every legal history no two lots that stand bear one number.
 pub fn lots_are_single()
     ensures { LotsAreSingle }
+{}
+
+/// After every legal history no frame in a line, and none that is offered, is longer than frames are.
+pub fn lines_have_frames()
+    ensures { LinesHaveFrames }
 {}
 
 /// After every legal history each lot bears the number of the entry of its session that brought it:

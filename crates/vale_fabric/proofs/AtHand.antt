@@ -4,7 +4,7 @@ use Rattle.std.proofs.Common.{ℕ, ◌+◌, ◌≤◌, ◌≡◌, Bool, true, fa
 use Rattle.std.specs.Option.{option_map_or}
 use Rattle.std.proofs.lemmas.Bool.{and_parts}
 use Rattle.nm_types.specs.Frames.{Frame}
-use Rattle.nm_types.specs.Limits.{most_batch}
+use Rattle.nm_types.specs.Limits.{most_batch, most_pool}
 use Rattle.nm_types.specs.Names.{is_pipe_name, is_switch_port_name, is_monitor_name}
 use Rattle.nm_types.specs.declared.id.PortId.{PortId}
 use Rattle.nm_turn.specs.Shares.{IsWhole}
@@ -112,14 +112,14 @@ offers-count frames [] (o ∷ os) are = absurd are
 offers-count frames (w ∷ ws) [] are = absurd are
 offers-count frames (w ∷ ws) (o ∷ os) are = let rest = offers-count frames ws os are.1 in omega (arith, rest)
 
--- a pool has at most 65,536 buffers
-pub low-pool : (fabric : Fabric) → (fixed_in fabric).pool ≤ 65536
+-- a pool has at most `most_pool` buffers
+pub low-pool : (fabric : Fabric) → (fixed_in fabric).pool ≤ most_pool
 low-pool fabric =
     let is = fabric.pool in
     let most = fabric.size.1 in
     omega (arith, is, most)
 
-pub hand-on : {fixed : Fixed} {v entered w : Knowing} {b after : Recorded} {ask : Ask} (o : OffersState) (bytes : List (List ℕ)) (may : MayAsk fixed v ask) → fixed.pool ≤ 65536 → IsTaken fixed v entered b
+pub hand-on : {fixed : Fixed} {v entered w : Knowing} {b after : Recorded} {ask : Ask} (o : OffersState) (bytes : List (List ℕ)) (may : MayAsk fixed v ask) → fixed.pool ≤ most_pool → IsTaken fixed v entered b
     → is_enter ask ≡ false → (acts : Acts b after ask) → IsPutBack entered w after → HasBytes (standing after) o bytes → o.entry ≡ length after.entries
     → IsOfSettled may.session ask → KeepsLeases (standing b) ask acts.steps.makes.reply → 1 ≤ length o.wants → IsAtHand fixed w o bytes
 hand-on {fixed} {v} {entered} {w} {b} {after} {ask} o bytes may low taken other acts back has last settles keeps some =

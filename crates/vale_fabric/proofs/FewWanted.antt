@@ -4,6 +4,7 @@ use Rattle.std.specs.List.{AllByRecursion as Each, cons_option}
 use Rattle.std.specs.Option.{option_map_or}
 use Rattle.std.proofs.lemmas.List.{length-map}
 use Rattle.std.proofs.lemmas.List.Sums.{sum_by-cons}
+use Rattle.nm_types.specs.Limits.{most_batch, most_pool, most_ring}
 use Rattle.nm_types.specs.Frames.{Frame}
 use Rattle.nm_types.specs.declared.id.PortId.{PortId}
 use Rattle.vale_batch.specs.Wants.{Wanted}
@@ -24,7 +25,8 @@ use Rattle.vale_entry.proofs.HistoryLaws.{history-stands}
 use Rattle.vale_entry.proofs.Numbered.{Numbered}
 use Rattle.vale_entry.proofs.Roomy.{HasRoom, Roomy}
 use Rattle.vale_entry.proofs.Shares.{fitting-few}
-use Rattle.vale_entry.proofs.Within.{found-within, wanted-few, monitored-few, length-named, delivered-few, sent-few, kept-few}
+use Rattle.vale_entry.proofs.Within.{wanted-few, monitored-few, length-named, delivered-few, sent-few, kept-few}
+use Rattle.vale_book.proofs.RingSizes.{HasRing, Rings, rings-small}
 use Rattle.vale_parts.specs.Batches.{IsOfferOf, AreOffersOf}
 use Rattle.vale_parts.specs.Offering.{offers_started}
 use Rattle.vale_fabric.specs.Settling.{frames_wanted, given_in, full_in, gone_in}
@@ -34,13 +36,13 @@ offered offer = length offer.frames
 
 -- ---- what an entry offers
 
--- at most 65,535 frames to each port
-few-each : (origin session : ℕ) (wanted : Port → List Frame) → ((p : Port) → length (wanted p) ≤ 65535) → (ports : List Port) → sum_by offered (offers_of origin session wanted ports) ≤ length ports * 65535
+-- to each port at most as many frames as a send has
+few-each : (origin session : ℕ) (wanted : Port → List Frame) → ((p : Port) → length (wanted p) ≤ most_batch) → (ports : List Port) → sum_by offered (offers_of origin session wanted ports) ≤ length ports * most_batch
 few-each origin session wanted few [] = omega arith
 few-each origin session wanted few (p ∷ ps) = by (wanted p) (few p) (few-each origin session wanted few ps)
   where
-    by : (frames : List Frame) → length frames ≤ 65535 → sum_by offered (offers_of origin session wanted ps) ≤ length ps * 65535
-        → sum_by offered (cons_option (offer_to origin session p.id frames) (offers_of origin session wanted ps)) ≤ length (p ∷ ps) * 65535
+    by : (frames : List Frame) → length frames ≤ most_batch → sum_by offered (offers_of origin session wanted ps) ≤ length ps * most_batch
+        → sum_by offered (cons_option (offer_to origin session p.id frames) (offers_of origin session wanted ps)) ≤ length (p ∷ ps) * most_batch
     by [] few rest = omega (arith, rest)
     by (f ∷ fs) few rest =
         let sum = sum_by-cons offered (record { origin = origin; session = session; to = p.id; frames = f ∷ fs }) (offers_of origin session wanted ps) in
@@ -56,23 +58,23 @@ ports-few (p ∷ ps) all =
     omega (arith, rest, fits, sum)
 
 abbrev FewStarted : Standing → Entry → Standing → Type 0
-FewStarted s e left = sum_by offered (offers_started s.world e.ask e.reply) ≤ 4294901760
+FewStarted s e left = sum_by offered (offers_started s.world e.ask e.reply) ≤ most_pool * most_batch
 
-module _ (s : Standing) (n : Numbered s) (room : Roomy s) (low : s.world.pool ≤ 65536) where
+module _ (s : Standing) (n : Numbered s) (room : Roomy s) (low : s.world.pool ≤ most_pool) (rings : Rings s) where
   abbrev w : World
   w = s.world
 
-  few-made : (session : ℕ) (wanted : Port → List Frame) → ((p : Port) → length (wanted p) ≤ 65535) → sum_by offered (offers_of (w.entry_count + 1) session wanted w.ports) ≤ 4294901760
+  few-made : (session : ℕ) (wanted : Port → List Frame) → ((p : Port) → length (wanted p) ≤ most_batch) → sum_by offered (offers_of (w.entry_count + 1) session wanted w.ports) ≤ most_pool * most_batch
   few-made session wanted few =
       let each = few-each (w.entry_count + 1) session wanted few w.ports in
       let ports = ports-few w.ports room.roomy in
       let within = room.within in
       omega (arith, each, ports, within, low)
 
-  nothing : 0 ≤ 4294901760
+  nothing : 0 ≤ most_pool * most_batch
   nothing = omega arith
 
-  quiet : (ask : Ask) (session : ℕ) (reply : Reply) → IsQuiet s ask session reply → sum_by offered (offers_started w ask reply) ≤ 4294901760
+  quiet : (ask : Ask) (session : ℕ) (reply : Reply) → IsQuiet s ask session reply → sum_by offered (offers_started w ask reply) ≤ most_pool * most_batch
   quiet _ _ _ (refused_open session name tx rx extra fault can e) = nothing
   quiet _ _ _ (resets at side fault port e can) = nothing
   quiet _ _ _ (finds_no_peer at count port e few gone) = nothing
@@ -80,10 +82,10 @@ module _ (s : Standing) (n : Numbered s) (room : Roomy s) (low : s.world.pool �
   quiet _ _ _ (finds_watched at target sides port found watch e can there some) = nothing
   quiet _ _ _ (counts at port e) = nothing
 
-  at-port : (make : Port → List Offer) (found : Option Port) (port : Port) → found ≡ Some port → sum_by offered (make port) ≤ 4294901760 → sum_by offered (option_map_or make found []) ≤ 4294901760
-  at-port make found port e few = subst (λ (x : Option Port). sum_by offered (option_map_or make x []) ≤ 4294901760) (sym e) few
+  at-port : (make : Port → List Offer) (found : Option Port) (port : Port) → found ≡ Some port → sum_by offered (make port) ≤ most_pool * most_batch → sum_by offered (option_map_or make found []) ≤ most_pool * most_batch
+  at-port make found port e few = subst (λ (x : Option Port). sum_by offered (option_map_or make x []) ≤ most_pool * most_batch) (sym e) few
 
-  send : (frames : List Frame) (port : Port) → can_send w frames port ≡ true → sum_by offered (offers_of_send w port frames) ≤ 4294901760
+  send : (frames : List Frame) (port : Port) → can_send w frames port ≡ true → sum_by offered (offers_of_send w port frames) ≤ most_pool * most_batch
   send frames port can =
       let most = sent-few w frames port can in
       let named = length-named w.ports port w.pairs frames in
@@ -91,20 +93,20 @@ module _ (s : Standing) (n : Numbered s) (room : Roomy s) (low : s.world.pool �
       let few = wanted-few port (transmit_monitor w port.id) (named_of w port frames) p in
       omega (arith, few, named, most))
 
-  sync : (at : PortId) (port : Port) → open_port w.ports at.0 ≡ Some port → sum_by offered (offers_of_sync w port) ≤ 4294901760
+  sync : (at : PortId) (port : Port) → open_port w.ports at.0 ≡ Some port → sum_by offered (offers_of_sync w port) ≤ most_pool * most_batch
   sync at port e =
       let fits = (each-find HasRoom (is_open_at at.0) w.ports port room.roomy e).fits in
-      let ring = (found-within s (is_open_at at.0) port n room e).ring in
+      let ring : port.rx ≤ most_ring = each-find HasRing (is_open_at at.0) w.ports port rings e in
       let given = delivered-few port in
       few-made port.session (monitored_frames (receive_monitor w port.id) (delivered_frames port)) (λ p.
       let few = monitored-few (receive_monitor w port.id) (delivered_frames port) p in
-      omega (arith, few, given, fits, ring, low))
+      omega (arith, few, given, fits, ring))
 
-  read : (ask : Ask) (at : PortId) (back : List ℕ) (reply : Reply) (port : Port) → Receives ask at back → open_port w.ports at.0 ≡ Some port → sum_by offered (offers_started w ask reply) ≤ 4294901760
+  read : (ask : Ask) (at : PortId) (back : List ℕ) (reply : Reply) (port : Port) → Receives ask at back → open_port w.ports at.0 ≡ Some port → sum_by offered (offers_started w ask reply) ≤ most_pool * most_batch
   read _ _ _ reply port (by_sync at back) e = at-port (offers_of_sync w) (open_port w.ports at.0) port e (sync at port e)
   read _ _ _ reply port (by_get at back) e = at-port (offers_of_sync w) (open_port w.ports at.0) port e (sync at port e)
 
-  put : (count : ℕ) (items : List Item) (port peer : Port) → CanKeep s count items port → peer_of w.ports port ≡ Some peer → sum_by offered (offers_of_put w port (frames_of_items items)) ≤ 4294901760
+  put : (count : ℕ) (items : List Item) (port peer : Port) → CanKeep s count items port → peer_of w.ports port ≡ Some peer → sum_by offered (offers_of_put w port (frames_of_items items)) ≤ most_pool * most_batch
   put count items port peer can found =
       let most = kept-few s count items port peer can found in
       let frames = length-map items frame_of_item in
@@ -128,12 +130,12 @@ module _ (s : Standing) (n : Numbered s) (room : Roomy s) (low : s.world.pool �
     leaves = λ session can. nothing;
   }
 
-pub few-started : (pool : ℕ) (h : List Entry) (e : Entry) → pool ≤ 65536 → IsLegal pool h → Follows (standing_of pool h) e → sum_by offered (offers_started (world_of pool h) e.ask e.reply) ≤ 4294901760
+pub few-started : (pool : ℕ) (h : List Entry) (e : Entry) → pool ≤ most_pool → IsLegal pool h → Follows (standing_of pool h) e → sum_by offered (offers_started (world_of pool h) e.ask e.reply) ≤ most_pool * most_batch
 few-started pool h e low legal follows =
     let s = standing_of pool h in
     let stands = history-stands pool h legal in
     let is = stands.pool_is in
-    follows-by s (FewStarted s) e follows (kinds s stands.numbered stands.roomy (omega (arith, is, low)))
+    follows-by s (FewStarted s) e follows (kinds s stands.numbered stands.roomy (omega (arith, is, low)) (rings-small pool h legal))
 
 -- ---- as it is wanted
 

@@ -1,11 +1,12 @@
 -- The frames with which leases are filled, and a lease that is filled frame by frame.
-use Rattle.std.specs.Prelude.{ℕ, true, ◌≡◌, All, List, drop, map, take, slice_get, Some}
+use Rattle.std.specs.Prelude.{ℕ, true, ◌≡◌, List, drop, map, take, slice_get, Some}
 use Rattle.std.specs.List.{list_all}
-use Rattle.nm_types.specs.Sendable.{fits_buffer}
-use Rattle.nm_region.specs.Buffers.{names_of}
-use Rattle.vale_line.specs.Gots.{buffers_of, frames_in, IsSingle}
+use Rattle.nm_types.specs.Sendable.{is_frame}
+use Rattle.vale_line.specs.Gots.{frames_in, IsCut}
 use Rattle.vale_line.specs.Leased.{Leased, contents}
 use Rattle.vale_port.specs.Kept.{bytes_of}
+use Rattle.vale_book.specs.Leases.{KeepsBuffers}
+pub use Rattle.vale_book.specs.Reading.{Begins}
 use Rattle.vale_fabric.specs.declared.filling.Frames.{Frames}
 use Rattle.vale_fabric.specs.declared.filling.Frames.TheVariants.{Batch, Gots}
 
@@ -13,9 +14,10 @@ abbrev pub bytes_from : Frames → List (List ℕ)
 bytes_from (Batch batch) = bytes_of batch.now
 bytes_from (Gots gots) = frames_in gots.now
 
+-- frames of a batch are no longer than frames are, and received ones are cut as frames are
 abbrev pub AreFitting : Frames → Type 0
-AreFitting (Batch batch) = list_all fits_buffer batch.now ≡ true
-AreFitting (Gots gots) = All IsSingle gots.now
+AreFitting (Batch batch) = list_all is_frame batch.now ≡ true
+AreFitting (Gots gots) = IsCut gots.now
 
 -- the frames at the first of these places are filled in, each in the next of the buffers
 pub record IsFilling (start : Leased) (frames : List (List ℕ)) (places : List ℕ) (count : ℕ) (lease : Leased) : Type 0 where
@@ -23,5 +25,4 @@ pub record IsFilling (start : Leased) (frames : List (List ℕ)) (places : List 
   pub to : lease.to ≡ start.to
   pub contents_are : map Some (contents lease) ≡ map (slice_get frames) (take count places)
   pub sizes : lease.sizes ≡ drop count start.sizes
-  pub empty : lease.empty ≡ drop count start.empty
-  pub names : names_of (buffers_of lease.filled) ≡ names_of (take count start.empty)
+  pub buffers : KeepsBuffers start lease

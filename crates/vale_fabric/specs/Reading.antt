@@ -1,12 +1,12 @@
 -- What the read of a port gives.
-use Rattle.std.specs.Prelude.{◌≡◌, ◌≤◌, ◌<◌, All, IfErr, IfOk, List, Result, length}
+use Rattle.std.specs.Prelude.{◌≡◌, ◌≤◌, ◌<◌, IfErr, IfOk, List, Result, length}
 use Rattle.nm_region.specs.Buffers.{Buffer}
 use Rattle.nm_turn.specs.declared.pass.Pass.{Pass}
 use Rattle.nm_turn.specs.Numbered.{Stands}
 use Rattle.nm_types.specs.declared.fault.StepFault.{StepFault}
 use Rattle.nm_types.specs.declared.id.PortId.{PortId}
 use Rattle.nm_types.specs.Limits.{most_ring}
-use Rattle.vale_line.specs.Gots.{frames_in, IsSingle}
+use Rattle.vale_line.specs.Gots.{frames_in, IsCut}
 use Rattle.vale_entry.specs.declared.entry.Ask.{Ask}
 use Rattle.vale_entry.specs.declared.entry.Entry.{Entry}
 use Rattle.vale_entry.specs.declared.entry.Reply.TheVariants.{Gave}
@@ -23,9 +23,9 @@ use Rattle.vale_fabric.specs.Settling.{IsAtHand}
 -- the fabric made the entry of this read of a port, gave it what was ready there, and offers that to its
 -- monitor
 pub record IsRead (fixed : Fixed) (v w : Knowing) (ask : Ask) (port : PortId) (synced : Synced) : Type 0 where
-  pub made : Answers fixed v w ask (Gave (length synced.got.items) (dests_wanted synced.offers.wants))
+  pub made : Answers fixed v w ask (Gave (length (frames_in synced.got.items)) (dests_wanted synced.offers.wants))
   pub got : IsGiven (before_in fixed w) port synced.got.items
-  pub single : All IsSingle synced.got.items
+  pub cut : IsCut synced.got.items
   pub few : length synced.got.items < most_ring
   pub offers : IsOffered (before_in fixed w) (seen_in fixed w) port synced.offers
   pub hand : 1 ≤ length synced.offers.wants → IsAtHand fixed w synced.offers (frames_in synced.got.items)

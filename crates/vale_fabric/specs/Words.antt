@@ -2,12 +2,13 @@
 pub use Rattle.nm_turn.specs.Numbered.{Stands}
 pub use Rattle.nm_turn.specs.Passes.{HasAll, Knows, forked_view, joined_view, kept_view}
 pub use Rattle.nm_turn.specs.Shares.{IsWhole}
-pub use Rattle.nm_types.specs.Sendable.{fits_buffer}
+pub use Rattle.nm_frag.specs.Parts.{slots_of_length}
+pub use Rattle.nm_types.specs.Sendable.{fits_buffer, is_frame}
 pub use Rattle.std.specs.List.{list_all}
 pub use Rattle.vale_book.specs.Putting.{IsPut}
 pub use Rattle.vale_book.specs.Recorded.{HadRoom, Recorded}
 pub use Rattle.vale_book.specs.Sending.{IsSent}
-pub use Rattle.vale_book.specs.Words.{AreOf, IsLegal, IsSingle, OffersStand, buffers_of}
+pub use Rattle.vale_book.specs.Words.{AreOf, IsCut, IsLegal, IsSingle, OffersStand, buffers_of}
 pub use Rattle.vale_book.specs.Words.{dests_wanted, given_by, indices_of, items_of, lease_id}
 pub use Rattle.vale_book.specs.Words.{read_ask, standing, wanted}
 pub use Rattle.vale_entry.specs.Transcript.{is_refusal}

@@ -36,7 +36,7 @@ each-flat P f all (x ∷ xs) = each-joined P (f x) (flat_map f xs) (all x) (each
 
 put-work : (n user j : ℕ) → 1 ≤ user → user ≤ 4 → IsWork (puts n user j)
 put-work n user j least most =
-    let fits : 60 + (n + user + j) % 64 ≤ 2048 = omega arith in
+    let fits : 60 + (n + user + j) % 64 ≤ buffer_bytes = omega arith in
     record { least = least; most = most; act = (refl, omega arith, fits) }
 
 syncs-work : (b : Bool) (user : ℕ) → 1 ≤ user → user ≤ 4 → Each IsWork (cond b (syncs user) [])
@@ -196,7 +196,7 @@ entered : (at user : ℕ) → 1 ≤ user → user ≤ 4 → IsSoundLine 4 (recor
 entered at user least most = record { least = least; most = most; act = tt }
 
 opened : (at user : ℕ) → 1 ≤ user → user ≤ 4 → IsSoundLine 4 (record { at = at; user = user; act = Open (port_name user) 256 256 0 })
-opened at user least most = record { least = least; most = most; act = is_named user least most }
+opened at user least most = record { least = least; most = most; act = (is_named user least most, omega arith, omega arith, omega arith) }
 
 units-sound : (n : ℕ) → Each (IsSoundUnit 4) (load_program n).units
 units-sound n = (

@@ -6,6 +6,7 @@ use Rattle.std.proofs.lemmas.Slice.Eq.{bytes_eq-Decides}
 use Rattle.std.proofs.lemmas.List.{get_or-set_other, set-get_or, set-set}
 use Rattle.std.proofs.lemmas.Grind.{get_or-set_at}
 use Rattle.std.proofs.Math.ListN.{get_or-map}
+use Rattle.nm_types.specs.Limits.{buckets}
 use Rattle.nm_types.specs.declared.id.Mac.{Mac}
 use Rattle.nm_types.specs.declared.id.PortId.{PortId}
 use Rattle.vale_learn.specs.declared.table.Station.{Station}
@@ -50,7 +51,7 @@ abbrev nothing : Option Station
 nothing = None
 
 pub none_found_at_first : NoneFoundAtFirst
-none_found_at_first address = ap (port_if_address address) (nothing_at nothing 1024 (bucket_of address))
+none_found_at_first address = ap (port_if_address address) (nothing_at nothing buckets (bucket_of address))
 
 same_entry : (entries : Entries) (seen : Option Station) (i j : ℕ) → i < length entries → i ≡ j → get_or (set entries i seen) j None ≡ seen
 same_entry entries seen i j within same = get_or-set_at entries i j seen None (sym same) within

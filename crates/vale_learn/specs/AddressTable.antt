@@ -1,6 +1,7 @@
 -- The learning table of a switch: 1024 entries, each of which holds the station that was learned last
 -- among the addresses of that entry, or nothing.
 use Rattle.std.specs.Prelude.{ℕ, ◌==◌, if◌then◌else◌, List, map, replicate, Option, Some, None, slice_index_or, slice_set, bytes_eq}
+use Rattle.nm_types.specs.Limits.{buckets}
 pub use Rattle.nm_types.specs.Addresses.{bucket_of}
 use Rattle.nm_types.specs.declared.id.Mac.{Mac}
 use Rattle.nm_types.specs.declared.id.PortId.{PortId}
@@ -10,7 +11,7 @@ abbrev pub Entries : Type 0
 Entries = List (Option Station)
 
 abbrev pub no_stations : Entries
-no_stations = replicate 1024 None
+no_stations = replicate buckets None
 
 -- what an address's entry holds
 abbrev pub entry_of : Entries → List ℕ → Option Station

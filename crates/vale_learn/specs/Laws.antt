@@ -1,5 +1,6 @@
 -- What a table answers after it has learned and forgotten, said of the answers alone.
 use Rattle.std.specs.Prelude.{ℕ, ◌≡◌, ◌==◌, ◌↔◌, if◌then◌else◌, List, length, Option, Some, None, bytes_eq}
+use Rattle.nm_types.specs.Limits.{buckets}
 use Rattle.nm_types.specs.declared.id.Mac.{Mac}
 use Rattle.nm_types.specs.declared.id.PortId.{PortId}
 use Rattle.vale_learn.specs.AddressTable.{Entries, bucket_of, entry_of, port_of_address, learned, restored, forgotten, no_stations}
@@ -19,12 +20,12 @@ found_after_learning entries learned_address port address =
     else (if bucket_of learned_address == bucket_of address then None else port_of_address entries address)
 
 abbrev pub LearningReplaces : Type 0
-LearningReplaces = (entries : Entries) (learned_address : Mac) (port : PortId) (address : List ℕ) → length entries ≡ 1024
+LearningReplaces = (entries : Entries) (learned_address : Mac) (port : PortId) (address : List ℕ) → length entries ≡ buckets
     → port_of_address (learned entries learned_address port) address ≡ found_after_learning entries learned_address.0 port address
 
 -- what was learned can be undone, from what the entry held before
 abbrev pub RestoringUndoesLearning : Type 0
-RestoringUndoesLearning = (entries : Entries) (address : Mac) (port : PortId) → length entries ≡ 1024
+RestoringUndoesLearning = (entries : Entries) (address : Mac) (port : PortId) → length entries ≡ buckets
     → restored (learned entries address port) address (entry_of entries address.0) ≡ entries
 
 abbrev pub unless_port : PortId → Option PortId → Option PortId

@@ -5,4 +5,4 @@
 pub mod laws;
 mod table;
 
-pub use table::{BUCKETS, Station, Table};
+pub use table::{Station, Table};

@@ -1,14 +1,12 @@
 ghost use Rattle.std.specs.Prelude.{◌≡◌, ◌+◌, ◌<◌, length, map, bytes_eq, IfOk};
+ghost use Rattle.nm_types.specs.Limits.{buckets};
 ghost use Rattle.nm_types.specs.Addresses.{word_at};
 ghost use Rattle.vale_learn.specs.AddressTable.{bucket_of, no_stations, entry_of, port_of_address, port_if_address, learned, restored, without_port, forgotten};
 
-use nm_types::{Mac, NoMemory, PortId};
+use nm_types::{BUCKETS, Mac, NoMemory, PortId};
 use std::alloc::Global;
 use std::marker::Model;
 use std::mem::replace;
-
-/// The number of a table's entries.
-pub const BUCKETS: usize = 1024;
 
 /// An address and the port behind which it was seen last.
 #[derive(Clone, Copy, Debug, PartialEq, Eq)]
@@ -25,6 +23,7 @@ pub struct Table {
 }
 
 impl Model for Table {
+    ghost use Rattle.nm_types.specs.Limits.{buckets};
     ghost use Rattle.vale_learn.specs.AddressTable.{Entries};
 
     ghost Value = { Entries };
@@ -33,7 +32,7 @@ impl Model for Table {
 
     ghost view = { λ t. t.entries.value };
 
-    ghost invariant = { λ t. length t.entries.value ≡ 1024 };
+    ghost invariant = { λ t. length t.entries.value ≡ buckets };
 }
 
 fn half_at(address: &Mac, i: usize) -> u32
@@ -45,7 +44,7 @@ fn half_at(address: &Mac, i: usize) -> u32
 
 fn bucket_of(address: &Mac) -> usize
     ensures value { result ≡ bucket_of address.now.0 }
-    ensures within { result < 1024 }
+    ensures within { result < buckets }
 {
     let halves = half_at(address, 0) ^ half_at(address, 2) ^ half_at(address, 4);
     halves as usize % BUCKETS
@@ -113,7 +112,7 @@ impl Table {
     pub fn teach(&mut self, address: Mac, port: PortId) -> Option<Station>
         ensures table { self.new ≡ learned self.old address port }
         ensures before { result ≡ entry_of self.old address.0 }
-        ensures entries { length self.old ≡ 1024 }
+        ensures entries { length self.old ≡ buckets }
     {
         let at = bucket_of(&address);
         replace(&mut self.entries[at], Some(Station { address, port }))
@@ -122,7 +121,7 @@ impl Table {
     /// The port behind which `address` was seen, if its entry still holds the address.
     pub fn find(&self, address: Mac) -> Option<PortId>
         ensures found { result ≡ port_of_address self.now address.0 }
-        ensures entries { length self.now ≡ 1024 }
+        ensures entries { length self.now ≡ buckets }
     {
         port_if_address(&self.entries[bucket_of(&address)], &address)
     }
@@ -137,7 +136,7 @@ impl Table {
     /// What the entry of `address` holds, of whatever address that is.
     pub fn station(&self, address: Mac) -> Option<Station>
         ensures held { result ≡ entry_of self.now address.0 }
-        ensures entries { length self.now ≡ 1024 }
+        ensures entries { length self.now ≡ buckets }
     {
         self.entries[bucket_of(&address)]
     }

@@ -4,15 +4,17 @@ use Rattle.std.specs.Prelude.{sum}
 use Rattle.std.specs.declared.vec.Vec.{Vec}
 use Rattle.std.specs.declared.alloc.Global.{Global}
 use Rattle.std.proofs.lemmas.List.{length-append, length-drop, length-map, drop-drop}
+use Rattle.nm_types.specs.Limits.{most_ring}
 use Rattle.nm_region.specs.Buffers.{Buffer}
 use Rattle.nm_frag.specs.Parts.{slots_of_length, parts_of}
 use Rattle.nm_frag.proofs.PartLemmas.{slots-some}
 use Rattle.vale_line.specs.declared.got.Got.{Got}
 use Rattle.vale_line.specs.declared.lease.Lease.TheInside.{Inside}
-use Rattle.vale_line.specs.Gots.{buffer_of, buffers_of, frames_in, gots_with, written_parts, HoldWholeFrames}
+use Rattle.vale_line.specs.Gots.{buffer_of, buffers_of, frames_in, gots_with, written_parts, HoldWholeFrames, IsCut}
 use Rattle.vale_line.specs.Leased.{Leased, first_size, sizes_in, with_frame}
 use Rattle.vale_line.specs.Stored.{lease_state, IsStoredLease}
-use Rattle.vale_line.proofs.FrameLemmas.{frames_in-append, frames_in-with, whole-append, whole-with}
+use Rattle.vale_line.proofs.FrameLemmas.{frames_in-append, frames_in-with}
+use Rattle.vale_line.proofs.CutLemmas.{cut-whole, cut-append, cut-with}
 use Rattle.vale_line.proofs.Filling.{filled-in, drop-buffers, sizes-first, get-drop}
 use Rattle.vale_line.proofs.FittingLemmas.{sum-cons}
 
@@ -48,10 +50,10 @@ frames-more front bytes bufs whole room =
 -- a lease of which so many buffers are filled then, and one frame more
 pub record HasFrame (l : Inside) (new : List Got) (n : ℕ) (bytes : List ℕ) : Type 0 where
   pub within : l.filled + n ≤ length new
-  pub few : length new ≤ 1024
+  pub few : length new ≤ most_ring
   pub count : length (frames_in (take (l.filled + n) new)) ≡ l.frames + 1
   pub total : l.count ≡ l.frames + 1 + length (sizes_in (drop (l.filled + n) new))
-  pub whole : HoldWholeFrames (take (l.filled + n) new)
+  pub cut : IsCut (take (l.filled + n) new)
   pub room : sum (sizes_in (drop (l.filled + n) new)) ≡ length new - (l.filled + n)
   pub filled : take (l.filled + n) new ≡ (lease_state l).filled ++ gots_with bytes (lease_state l).empty
   pub left : sizes_in (drop (l.filled + n) new) ≡ drop 1 (lease_state l).sizes
@@ -78,7 +80,7 @@ has-frame l new n bytes stored size is written =
     let few = stored.few in
     let room : slots ≤ length bufs = omega (arith, fewer, behind, fits) in
     let filled : take (l.filled + n) new ≡ front ++ gots_with bytes bufs = ap (λ (k : ℕ). take (l.filled + k) new) size ∙ all.filled in
-    let contents = ap frames_in filled ∙ frames-more front bytes bufs stored.whole room in
+    let contents = ap frames_in filled ∙ frames-more front bytes bufs (cut-whole front stored.cut) room in
     let more = length-append (frames_in front) (bytes ∷ []) in
     let frames = stored.frames in
     let same_rest : drop (l.filled + n) new ≡ drop (l.filled + slots) gots = ap (λ (k : ℕ). drop (l.filled + k) new) size ∙ all.left in
@@ -93,7 +95,7 @@ has-frame l new n bytes stored size is written =
       few = omega (arith, few, same);
       count = ap (λ (fs : List (List ℕ)). length fs) contents ∙ omega (arith, more, frames);
       total = omega (arith, total, counted, sizes_count);
-      whole = subst HoldWholeFrames (sym filled) (whole-append front (gots_with bytes bufs) stored.whole (whole-with bytes bufs room));
+      cut = subst IsCut (sym filled) (cut-append front (gots_with bytes bufs) stored.cut (cut-with bytes bufs room));
       room = omega (arith, sum_is, sizes_sum, before, same, size, within, fits);
       filled = filled;
       left = sizes_are ∙ sym (ap (λ (ns : List ℕ). drop 1 ns) next.left);
@@ -111,4 +113,4 @@ seen-with l new n bytes f = rw (f.filled, f.left, f.empty) refl
 
 -- and what holds of its fields
 pub still-stored : (l : Inside) (gots : Vec Got Global) (n : ℕ) (bytes : List ℕ) → HasFrame l gots.items n bytes → IsStoredLease (record l { gots = gots; filled = l.filled + n; frames = l.frames + 1 })
-still-stored l gots n bytes f = record { within = f.within; few = f.few; frames = f.count; count = f.total; whole = f.whole; room = f.room }
+still-stored l gots n bytes f = record { within = f.within; few = f.few; frames = f.count; count = f.total; cut = f.cut; room = f.room }

@@ -187,3 +187,5 @@ none-left [] is = refl
 none-left (size ∷ sizes) is = absurd (omega (arith, is))
 
 pub ruleset tests = (none-left)
+
+pub ruleset parts_in = (take-min)

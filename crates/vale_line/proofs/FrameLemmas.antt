@@ -35,7 +35,7 @@ pub whole-append : (a b : List Got) → HoldWholeFrames a → HoldWholeFrames b 
 whole-append a b first second = begun_behind-append [] a b ∙ (ap (λ (begun : List ℕ). begun_behind begun b) first ∙ second)
 
 -- the part that was written is the one that stands in the buffer
-part_in-got_of : (part : List ℕ) (rest : ℕ) (b : Buffer) → part_in (got_of part rest b) ≡ part
+pub part_in-got_of : (part : List ℕ) (rest : ℕ) (b : Buffer) → part_in (got_of part rest b) ≡ part
 part_in-got_of part rest b = take-append_seam part (drop (length part) b.bytes)
 
 -- the parts of a frame, in order, make one frame, and end it
@@ -59,7 +59,7 @@ begun_behind-parts begun (p ∷ q ∷ ps) (b ∷ bs) some room =
     let more : is_last (got_of p (length (q ∷ ps)) b) ≡ false = ne_eqb (length (q ∷ ps)) 0 (λ e. let wrong : length (q ∷ ps) ≡ 0 = e in omega (arith, wrong)) in
     rw more (begun_behind-parts (begun ++ part_in (got_of p (length (q ∷ ps)) b)) (q ∷ ps) bs (omega arith) (omega (arith, room)))
 
-parts-some : (bytes : List ℕ) → 1 ≤ length (parts_of bytes)
+pub parts-some : (bytes : List ℕ) → 1 ≤ length (parts_of bytes)
 parts-some bytes =
     let count = length-parts (slots_of_length (length bytes)) bytes in
     let some = slots-some (length bytes) in

@@ -1,10 +1,12 @@
 pub mod CellLemmas
+pub mod CutLemmas
 pub mod FilledFrames
 pub mod Filling
 pub mod FittingLemmas
 pub mod FrameLemmas
 pub mod LotLemmas
 pub mod Moving
+pub mod ReadyLemmas
 pub mod RingLemmas
 pub mod RunLemmas
 pub mod StoredAfter

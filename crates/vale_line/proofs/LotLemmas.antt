@@ -16,8 +16,9 @@ use Rattle.vale_lease.specs.Leases.{AreLeases, is_there, is_lease_out, is_out, o
 use Rattle.vale_lease.proofs.LeaseLemmas.{length-le-slots, leases-push, leases-drop, slots-completed, out_there}
 use Rattle.vale_lease.proofs.LeaseLemmas.{leases-completed as ring-completed}
 use Rattle.vale_line.specs.declared.got.Got.{Got}
-use Rattle.vale_line.specs.Gots.{frames_in, last_count, HoldWholeFrames}
+use Rattle.vale_line.specs.Gots.{frames_in, last_count, HoldWholeFrames, IsCut}
 use Rattle.vale_line.proofs.FrameLemmas.{frames_in-append}
+use Rattle.vale_line.proofs.CutLemmas.{cut-whole, cut-append}
 use Rattle.vale_line.specs.Lines.{HeldLot, LineState, is_done, gots_of, lease_of, leases_of, slots_of, done_lots, behind_done, ready_gots, ready_frames, frames_of_lot, completed, opened_lot, put_lot, with_lease, given_by_sync, out_of, space_of, first_gots, gots_of_first, is_out_at, slots_out, IsLot, IsLine}
 
 -- the ring has as many slots leased as the lots have
@@ -309,7 +310,7 @@ pub none-of-out : (id : ℕ) (lot : HeldLot) → is_out_at id lot ≡ true → l
 none-of-out id lot out = not-some lot.gots ((and_parts (lot.id.0 == id) (not (is_done lot)) out).1)
 
 -- the completed lot has as many buffers as slots
-pub lots-completed : (id : ℕ) (gots : List Got) (lots : List HeldLot) → HoldWholeFrames gots → AreLeases (leases_of lots) → slots_out id lots ≡ Some (length gots)
+pub lots-completed : (id : ℕ) (gots : List Got) (lots : List HeldLot) → IsCut gots → AreLeases (leases_of lots) → slots_out id lots ≡ Some (length gots)
     → All IsLot lots → All IsLot (map (completed id gots) lots)
 lots-completed id gots [] frames are is full = full
 lots-completed id gots (lot ∷ lots) frames are is full = elim (cases_Bool (is_out_at id lot)) [
@@ -335,7 +336,7 @@ lots-completed id gots (lot ∷ lots) frames are is full = elim (cases_Bool (is_
       All-same IsLot (map (completed id gots) (lot ∷ lots)) (lot ∷ map (completed id gots) lots) whole (All-cons IsLot lot (map (completed id gots) lots) (All-head IsLot lot lots full) rest)
 ]
 
-pub IsLine-done : (line : LineState) (id : ℕ) (gots : List Got) → HoldWholeFrames gots → IsLine line → slots_out id line.lots ≡ Some (length gots) → IsLine (record line { lots = map (completed id gots) line.lots })
+pub IsLine-done : (line : LineState) (id : ℕ) (gots : List Got) → IsCut gots → IsLine line → slots_out id line.lots ≡ Some (length gots) → IsLine (record line { lots = map (completed id gots) line.lots })
 IsLine-done line id gots frames is out =
     let leases = leases-completed id gots line.lots in
     let slots : slots_of (map (completed id gots) line.lots) ≡ slots_of line.lots =
@@ -349,7 +350,7 @@ IsLine-done line id gots frames is out =
       are_leases = rw leases (ring-completed id (leases_of line.lots) is.are_leases);
     }
 
-pub IsLine-put : (line : LineState) (id : LeaseId) (gots : List Got) → HoldWholeFrames gots → IsLine line → 1 ≤ length gots → length gots ≤ out_of line → is_there id.0 (leases_of line.lots) ≡ false
+pub IsLine-put : (line : LineState) (id : LeaseId) (gots : List Got) → IsCut gots → IsLine line → 1 ≤ length gots → length gots ≤ out_of line → is_there id.0 (leases_of line.lots) ≡ false
     → IsLine (record line { lots = line.lots ++ put_lot id gots ∷ [] })
 IsLine-put line id gots frames is some fits fresh =
     let slots : slots_of (line.lots ++ put_lot id gots ∷ []) ≡ slots_of line.lots + length gots = slots_of-push line.lots (put_lot id gots) in
@@ -398,13 +399,29 @@ none_out id [] none = refl
 none_out id (lot ∷ lots) none =
     or_from (is_out_at id lot) (list_any (is_out_at id) lots) (All-head (IsNotOut id) lot lots none) (none_out id lots (All-tail (IsNotOut id) lot lots none))
 
--- a lot that is done has whole frames
-whole-lot : (lot : HeldLot) → IsLot lot → HoldWholeFrames (gots_of lot)
-whole-lot lot full = whole-by lot.gots refl
+-- a lot that is done has whole frames, which are cut
+pub cut-lot : (lot : HeldLot) → IsLot lot → IsCut (gots_of lot)
+cut-lot lot full = cut-by lot.gots refl
   where
-    whole-by : (g : Option (List Got)) → lot.gots ≡ g → HoldWholeFrames (gots_of lot)
-    whole-by None is = rw is refl
-    whole-by (Some gots) is = rw is (rw is at full).1
+    cut-by : (g : Option (List Got)) → lot.gots ≡ g → IsCut (gots_of lot)
+    cut-by None is = rw is refl
+    cut-by (Some gots) is = rw is (rw is at full).1
+
+pub whole-lot : (lot : HeldLot) → IsLot lot → HoldWholeFrames (gots_of lot)
+whole-lot lot full = cut-whole (gots_of lot) (cut-lot lot full)
+
+-- and so are the frames of all that are ready
+pub ready-cut : (lots : List HeldLot) → All IsLot lots → IsCut (ready_gots lots)
+ready-cut [] full = refl
+ready-cut (lot ∷ lots) full = elim (cases_Bool (is_done lot)) [
+  | inl here ↦
+      let next : 1 + prefix_len is_done lots ≡ suc (prefix_len is_done lots) = omega arith in
+      let cut : done_lots (lot ∷ lots) ≡ lot ∷ done_lots lots = rw (here, next) refl in
+      let ready : ready_gots (lot ∷ lots) ≡ gots_of lot ++ ready_gots lots = ap (λ (ls : List HeldLot). flat_map gots_of ls) cut in
+      let rest = ready-cut lots (All-tail IsLot lot lots full) in
+      rw ready (cut-append (gots_of lot) (ready_gots lots) (cut-lot lot (All-head IsLot lot lots full)) rest)
+  | inr other ↦ rw other refl
+]
 
 -- the frames of the done lots, one lot behind the other
 pub ready-frames : (lots : List HeldLot) → All IsLot lots → frames_in (ready_gots lots) ≡ ready_frames lots
@@ -440,4 +457,4 @@ all-done (lot ∷ lots) none = elim (cases_Bool (is_done lot)) [
       absurd (omega (arith, whole, one, none))
 ]
 
-pub ruleset lots = (leased-slots, done-leases, ready-slots, leases_of-push, slots_of-push, few-lots, IsLine-granted, first-ready, first-behind, first-some, none-ready, none-behind, length-ready, ready-count, slots-out, lease-out, all-done, ready-frames)
+pub ruleset lots = (leased-slots, done-leases, ready-slots, leases_of-push, slots_of-push, few-lots, IsLine-granted, first-ready, first-behind, first-some, none-ready, none-behind, length-ready, ready-count, slots-out, lease-out, all-done, ready-frames, ready-cut)

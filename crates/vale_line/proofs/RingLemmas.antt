@@ -9,6 +9,7 @@ use Rattle.std.proofs.lemmas.Bool.{cases_Bool, ltb-true, ltb-false, lt-ltb, le-l
 use Rattle.std.proofs.lemmas.List.{length-append, length-map, map-append, take-append-drop, length-drop, length-take-le, append_assoc}
 use Rattle.std.proofs.lemmas.List.Sums.{sum_by-cons}
 use Rattle.std.proofs.lemmas.List.Elements.{All-nil, All-push, All-cons, All-head, All-tail}
+use Rattle.nm_types.specs.Limits.{most_ring}
 use denote.RawPtr.{Ptr}
 use Rattle.nm_region.specs.Buffers.{Buffer}
 use Rattle.nm_reach.specs.Fields.{Run, FieldState, Meet, round, end_of}
@@ -651,7 +652,7 @@ module _ {w g all0 full0 run1 all1 a idle1 b full1 rest : Run (Option Got)} {roo
       }
 
 -- the ring that is made first
-pub first_ring : (field : FieldState) (idle given now : Run (Option Got)) (lots : VecDeque Lot Global) → 1 ≤ field.size → field.size ≤ 1024
+pub first_ring : (field : FieldState) (idle given now : Run (Option Got)) (lots : VecDeque Lot Global) → 1 ≤ field.size → field.size ≤ most_ring
     → idle.field ≡ field.field → idle.size ≡ field.size → length idle.values ≡ field.size → idle.start ≡ 0 → lots.items ≡ [] → field.size ≤ deque_capacity lots
     → AreFull idle.values → AreBlank (gots_in idle.values)
     → given ≡ record idle { values = take 0 idle.values } → now ≡ record idle { start = round idle.size idle.start 0; values = drop 0 idle.values }

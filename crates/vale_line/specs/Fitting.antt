@@ -1,9 +1,10 @@
 -- Which frames a grant gives: the longest prefix of those that are wanted whose slots fit.
 use Rattle.std.specs.Prelude.{ℕ, ◌-◌, ◌≤◌, nat_le, if◌then◌else◌, List, [], ◌∷◌, Option, Some, None}
+use Rattle.nm_types.specs.Limits.{most_frame_slots}
 
--- a frame takes 1 to 64 slots
+-- a frame takes a slot at least, and no more than frames do
 abbrev pub IsFrameSize : ℕ → Type 0
-IsFrameSize size = (1 ≤ size) × (size ≤ 64)
+IsFrameSize size = (1 ≤ size) × (size ≤ most_frame_slots)
 
 -- the longest prefix of sizes whose sum is at most this
 abbrev pub fitting_sizes : ℕ → List ℕ → List ℕ

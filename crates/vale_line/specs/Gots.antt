@@ -1,7 +1,7 @@
 -- Buffers with frames in their first bytes. A frame of several slots lies in as many buffers, one
 -- behind the other.
-use Rattle.std.specs.Prelude.{ℕ, Bool, ◌≡◌, ◌==◌, if◌then◌else◌, List, [], ◌∷◌, ◌++◌, length, take, map}
-use Rattle.nm_frag.specs.Parts.{parts_of}
+use Rattle.std.specs.Prelude.{ℕ, Bool, ◌≡◌, ◌≤◌, ◌==◌, if◌then◌else◌, List, [], ◌∷◌, ◌++◌, length, take, map, flat_map}
+use Rattle.nm_frag.specs.Parts.{parts_of, HeldPart, cut_frames}
 use Rattle.nm_region.specs.Buffers.{Buffer}
 use Rattle.nm_region.specs.Marked.{with_front}
 use Rattle.vale_line.specs.declared.got.Got.{Got}
@@ -67,6 +67,31 @@ abbrev pub written_parts : List (List ℕ) → List Got → List Got
 written_parts [] gots = gots
 written_parts (part ∷ parts) [] = []
 written_parts (part ∷ parts) (got ∷ gots) = got_of part (length parts) got.buf ∷ written_parts parts gots
+
+-- what a buffer tells of the part in it
+abbrev pub held_part : Got → HeldPart
+held_part got = record { bytes = part_in got; rest = got.rest }
+
+abbrev pub held_parts : List Got → List HeldPart
+held_parts gots = map held_part gots
+
+-- whole frames lie in these buffers, each cut as frames are
+abbrev pub IsCut : List Got → Type 0
+IsCut gots = held_parts gots ≡ cut_frames (frames_in gots)
+
+-- all bytes in buffers: those of a frame where its parts lie in them
+abbrev pub joined_parts : List Got → List ℕ
+joined_parts gots = flat_map part_in gots
+
+-- parts that are told, written into the first of these, one in each
+abbrev pub copied_parts : List HeldPart → List Got → List Got
+copied_parts [] gots = gots
+copied_parts (part ∷ parts) [] = []
+copied_parts (part ∷ parts) (got ∷ gots) = got_of part.bytes part.rest got.buf ∷ copied_parts parts gots
+
+-- no more bytes than a buffer has
+abbrev pub FitsPart : Got → Type 0
+FitsPart got = length (part_in got) ≤ 2048
 
 -- a frame of one slot
 abbrev pub IsSingle : Got → Type 0

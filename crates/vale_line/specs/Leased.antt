@@ -1,5 +1,6 @@
 -- A lease: buffers of a receive ring that a sender fills, frame by frame.
 use Rattle.std.specs.Prelude.{ℕ, Bool, zero, suc, ◌+◌, ◌&&◌, ◌==◌, nat_le, List, [], ◌∷◌, ◌++◌, length, drop}
+use Rattle.nm_types.specs.Limits.{most_frame_bytes}
 use Rattle.nm_frag.specs.Parts.{slots_of_length}
 use Rattle.nm_region.specs.Buffers.{Buffer}
 use Rattle.vale_line.specs.declared.got.Got.{Got}
@@ -46,7 +47,7 @@ next_of lease = first_size lease.sizes
 
 -- a frame is no longer than frames are, and takes as many slots as the next one is to
 abbrev pub is_next : List ℕ → Leased → Bool
-is_next bytes lease = nat_le (length bytes) 131072 && slots_of_length (length bytes) == next_of lease
+is_next bytes lease = nat_le (length bytes) most_frame_bytes && slots_of_length (length bytes) == next_of lease
 
 -- the lease with one frame more
 abbrev pub with_frame : List ℕ → Leased → Leased

@@ -2,14 +2,15 @@
 use Rattle.std.specs.Prelude.{ℕ, Bool, ◌≡◌, ◌==◌, ◌+◌, ◌-◌, ◌≤◌, if◌then◌else◌, List, [], ◌∷◌, ◌++◌, length, take, drop, map, take_while, flat_map, sum_by, not, sum, All, Option, Some, None, is_some, option_map, find, ◌&&◌, IfSome}
 use Rattle.std.specs.List.{prefix_len}
 use Rattle.std.specs.Option.{option_map_or}
+use Rattle.nm_types.specs.Limits.{most_ring}
 use Rattle.nm_types.specs.declared.id.LeaseId.{LeaseId}
 use Rattle.nm_region.specs.Buffers.{Buffer}
 use Rattle.vale_lease.specs.declared.leases.LeaseSlots.{LeaseSlots}
 use Rattle.vale_lease.specs.Leases.{AreLeases}
 use Rattle.vale_line.specs.declared.got.Got.{Got}
 use Rattle.vale_line.specs.Fitting.{fitting_sizes}
-use Rattle.vale_line.specs.Gots.{HoldWholeFrames, frames_in}
-use Rattle.vale_line.specs.Leased.{Leased}
+use Rattle.vale_line.specs.Gots.{IsCut, frames_in}
+use Rattle.vale_line.specs.Leased.{Leased, sizes_in}
 
 -- a lot has so many slots; its buffers are with its lease until that is done
 pub record HeldLot : Type 0 where
@@ -57,9 +58,16 @@ room_to_sync lots = if length (done_lots lots) == 1 then 0 else length (ready_go
 abbrev pub frames_of_lot : HeldLot → List (List ℕ)
 frames_of_lot lot = frames_in (gots_of lot)
 
+abbrev pub sizes_of_lot : HeldLot → List ℕ
+sizes_of_lot lot = sizes_in (gots_of lot)
+
 -- the frames that a sync gives
 abbrev pub ready_frames : List HeldLot → List (List ℕ)
 ready_frames lots = flat_map frames_of_lot (done_lots lots)
+
+-- the slots of each of these frames, as their buffers tell them, and as the frames have them
+abbrev pub ready_sizes : List HeldLot → List ℕ
+ready_sizes lots = flat_map sizes_of_lot (done_lots lots)
 
 -- the buffers that a grant can still lease: one always stays
 abbrev pub space_of : LineState → ℕ
@@ -122,13 +130,13 @@ leased id to sizes line = record { id = id.0; to = to; filled = []; sizes = size
 abbrev pub given_by_sync : List Buffer → LineState → LineState
 given_by_sync back line = record line { idle = line.idle ++ back; lots = behind_done line.lots }
 
--- a done lot has as many buffers as it has slots, and whole frames in them
+-- a done lot has as many buffers as it has slots, and whole frames in them, cut as frames are
 abbrev pub IsLot : HeldLot → Type 0
-IsLot lot = IfSome lot.gots (λ (gots : List Got). (length gots ≡ lot.slots) × HoldWholeFrames gots)
+IsLot lot = IfSome lot.gots (λ (gots : List Got). (length gots ≡ lot.slots) × IsCut gots)
 
 -- sizes that a line keeps
 pub record IsLine (line : LineState) : Type 0 where
-  pub few : line.size ≤ 1024
+  pub few : line.size ≤ most_ring
   pub some : 1 ≤ length line.idle
   pub within : length line.idle + slots_of line.lots ≤ line.size
   pub lots : All IsLot line.lots

@@ -3,6 +3,7 @@ use Rattle.std.specs.Prelude.{ℕ, ◌≡◌, ◌+◌, ◌≤◌, ◌<◌, List,
 use Rattle.std.specs.declared.alloc.Global.{Global}
 use Rattle.std.specs.Vec.{vec_capacity}
 use Rattle.std.specs.VecDeque.{deque_capacity}
+use Rattle.nm_types.specs.Limits.{most_ring}
 use denote.RawPtr.{Ptr}
 use Rattle.nm_reach.specs.Fields.{Run, round, end_of}
 use Rattle.nm_region.specs.Buffers.{Buffer}
@@ -56,7 +57,7 @@ pub record IsRing (r : Ring) : Type 0 where
   pub round : end_of r.idle ≡ r.given.start
   pub given_within : r.given.start < r.field.size
   pub idle_within : r.idle.start < r.field.size
-  pub few : r.field.size ≤ 1024
+  pub few : r.field.size ≤ most_ring
   pub all : length r.given.values + slots_of (held_lots r.lots.items) + length r.idle.values ≡ r.field.size
   pub none : AreEmpty r.given.values
   pub held : All IsHeld r.lots.items

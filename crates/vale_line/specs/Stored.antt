@@ -1,9 +1,10 @@
 -- How a line, a lease and the room for one are kept in memory.
 use Rattle.std.specs.Prelude.{◌≡◌, ◌≤◌, ◌+◌, ◌-◌, [], length, take, drop, sum}
 use Rattle.std.specs.Vec.{vec_capacity}
+use Rattle.nm_types.specs.Limits.{most_ring}
 use Rattle.vale_line.specs.declared.lease.Lease.TheInside.{Inside as LeaseInside}
 use Rattle.vale_line.specs.declared.line.Line.TheInside.{Inside}
-use Rattle.vale_line.specs.Gots.{buffers_of, frames_in, HoldWholeFrames}
+use Rattle.vale_line.specs.Gots.{buffers_of, frames_in, IsCut}
 use Rattle.vale_line.specs.Leased.{Leased, sizes_in}
 use Rattle.vale_line.specs.Lines.{LineState, IsLine, leases_of}
 use Rattle.vale_line.specs.Rings.{ring_state, IsRing}
@@ -30,8 +31,8 @@ lease_state l = record {
 
 pub record IsStoredLease (l : LeaseInside) : Type 0 where
   pub within : l.filled ≤ length l.gots.items
-  pub few : length l.gots.items ≤ 1024
+  pub few : length l.gots.items ≤ most_ring
   pub frames : length (frames_in (take l.filled l.gots.items)) ≡ l.frames
   pub count : l.count ≡ l.frames + length (sizes_in (drop l.filled l.gots.items))
-  pub whole : HoldWholeFrames (take l.filled l.gots.items)
+  pub cut : IsCut (take l.filled l.gots.items)
   pub room : sum (sizes_in (drop l.filled l.gots.items)) ≡ length l.gots.items - l.filled

@@ -1,5 +1,5 @@
 ghost use Rattle.std.specs.Prelude.{◌≡◌, ◌≤◌, length};
-ghost use Rattle.vale_line.specs.Gots.{blank, got_of, last_count};
+ghost use Rattle.vale_line.specs.Gots.{blank, got_of, last_count, part_in};
 
 use nm_region::Buf;
 
@@ -34,6 +34,16 @@ impl Got {
             rest: _,
         } = self;
         buf
+    }
+
+    /// The part of a frame in the buffer.
+    #[tactic(auto, using(crate::proofs::Filling::parts_in))]
+    pub fn part(&self) -> &[u8]
+        ensures part { result.now ≡ part_in self.now }
+        ensures size { length result.now ≤ 2048 }
+    {
+        let bytes = self.buf.bytes();
+        &bytes[..bytes.len().min(self.len as usize)]
     }
 
     /// Copies a part of a frame into the buffer. `rest` more parts follow.

@@ -1,7 +1,8 @@
 ghost use Rattle.std.specs.Prelude.{ℕ, ◌≡◌, ◌≤◌, ◌<◌, ◌+◌, [], ◌∷◌, ◌++◌, All, length, map, take, drop, sum, true, false, IfOk, vec_capacity};
-ghost use Rattle.nm_frag.specs.Parts.{slots_of_length, parts_of};
+ghost use Rattle.nm_types.specs.Limits.{most_frame_bytes, most_ring};
+ghost use Rattle.nm_frag.specs.Parts.{slots_of_length, parts_of, cut_frame};
 ghost use Rattle.vale_line.specs.Fitting.{IsFrameSize};
-ghost use Rattle.vale_line.specs.Gots.{blank, buffers_of, written_parts, HoldWholeFrames};
+ghost use Rattle.vale_line.specs.Gots.{blank, buffers_of, written_parts, copied_parts, held_parts, joined_parts, IsCut};
 ghost use Rattle.vale_line.specs.Stored.{lease_state, IsStoredLease};
 ghost use Rattle.vale_line.specs.Leased.{Leased, contents, count_of, buffer_count, is_next, next_of, sizes_in, with_frame};
 
@@ -93,7 +94,7 @@ fn fill_first(gots: &mut Vec<Got>, at: usize, bytes: &[u8])
 
 /// Copies a frame into the buffers from `at` on, 2048 bytes in each but the last.
 fn fill_parts(gots: &mut Vec<Got>, at: usize, bytes: &[u8])
-    requires frame { length bytes.now ≤ 131072 }
+    requires frame { length bytes.now ≤ most_frame_bytes }
     requires room { at + slots_of_length (length bytes.now) ≤ length gots.old.items }
     ensures { gots.new.items ≡ take at gots.old.items
         ++ written_parts (parts_of bytes.now) (drop at gots.old.items) }
@@ -108,6 +109,18 @@ fn fill_parts(gots: &mut Vec<Got>, at: usize, bytes: &[u8])
         let (part, behind) = rest.split_at(rest.len().min(BUFFER_BYTES));
         gots[at + k as usize].fill(part, (count - 1 - k) as u8);
         rest = behind;
+    }
+}
+
+/// Copies the parts in some buffers into those from `at` on.
+fn copy_parts(gots: &mut Vec<Got>, at: usize, from: &[Got])
+    requires { at + length from.now ≤ length gots.old.items }
+    ensures { gots.new.items ≡ take at gots.old.items
+        ++ copied_parts (held_parts from.now) (drop at gots.old.items) }
+{
+    for k in 0..from.len() {
+        let got = &from[k];
+        gots[at + k].fill(got.part(), got.rest);
     }
 }
 
@@ -135,8 +148,8 @@ impl Lease {
     /// A lease of these buffers, none of which has a frame, for frames of these sizes in slots.
     #[tactic(auto, using(crate::proofs::Filling::filling))]
     pub(crate) fn new(id: LeaseId, to: PortId, mut gots: Vec<Got>, sizes: &[u32]) -> Lease
-        requires few { length gots.items ≤ 1024 }
-        requires few_frames { length sizes.now ≤ 1024 }
+        requires few { length gots.items ≤ most_ring }
+        requires few_frames { length sizes.now ≤ most_ring }
         requires blank { gots.items ≡ map blank (buffers_of gots.items) }
         requires sizes { All IsFrameSize sizes.now }
         requires room { sum sizes.now ≡ length gots.items }
@@ -208,7 +221,7 @@ impl Lease {
     /// Copies a frame of the next size into the next buffers. A full lease has no next size.
     #[tactic(auto, using(crate::proofs::Filling::filling))]
     pub fn fill(&mut self, bytes: &[u8])
-        requires frame { length bytes.now ≤ 131072 }
+        requires frame { length bytes.now ≤ most_frame_bytes }
         requires next { slots_of_length (length bytes.now) ≡ next_of self.old }
         ensures lease { self.new ≡ with_frame bytes.now self.old }
         ensures contents { contents self.new ≡ contents self.old ++ bytes.now ∷ [] }
@@ -258,13 +271,27 @@ impl Lease {
         self.frames += 1;
     }
 
+    /// Copies the frame in these buffers, which has the next size, into the next ones, part by part.
+    #[tactic(auto, using(crate::proofs::Filling::filling))]
+    pub fn fill_from(&mut self, gots: &[Got])
+        requires frame { held_parts gots.now ≡ cut_frame (joined_parts gots.now) }
+        requires next { length gots.now ≡ next_of self.old }
+        ensures lease { self.new ≡ with_frame (joined_parts gots.now) self.old }
+        ensures contents { contents self.new ≡ contents self.old ++ joined_parts gots.now ∷ [] }
+        ensures count { buffer_count self.new ≡ buffer_count self.old }
+    {
+        copy_parts(&mut self.gots, self.filled, gots);
+        self.filled += gots.len();
+        self.frames += 1;
+    }
+
     /// The buffers of a full lease, with their frames.
     #[tactic(auto, using(crate::proofs::Filling::filling))]
     pub(crate) fn into_gots(self) -> Vec<Got>
         requires { self.sizes ≡ [] }
         ensures gots { result.items ≡ self.filled }
         ensures count { length result.items ≡ buffer_count self }
-        ensures whole { HoldWholeFrames result.items }
+        ensures cut { IsCut result.items }
     {
         let Lease {
             id: _,

@@ -1,10 +1,12 @@
 ghost use Rattle.std.specs.Prelude.{◌≡◌, ◌≤◌, ◌<◌, ◌+◌, ◌-◌, ◌^◌, [], ◌∷◌, ◌++◌, All, length, take, drop, map, min, sum, false, Some, vec_len, vec_capacity, IfOk, IfErr, IfSome, IfNone};
 ghost use Rattle.std.specs.List.{list_any};
 ghost use Rattle.std.specs.VecDeque.{deque_capacity};
+ghost use Rattle.nm_types.specs.Limits.{most_ring};
 ghost use Rattle.vale_lease.specs.Leases.{AreLeases, is_there, out_count};
+ghost use Rattle.nm_frag.specs.Parts.{slots_of_bytes};
 ghost use Rattle.vale_line.specs.Fitting.{IsFrameSize, first_fitting, fitting_sizes};
 ghost use Rattle.vale_line.specs.Rings.{ring_state, IsRing};
-ghost use Rattle.vale_line.specs.Gots.{blank, buffers_of, frames_in, IsSingle, HoldWholeFrames};
+ghost use Rattle.vale_line.specs.Gots.{blank, buffers_of, frames_in, IsSingle, IsCut, FitsPart};
 ghost use Rattle.vale_line.specs.Leased.{buffer_count};
 ghost use Rattle.vale_line.specs.Stored.{state_of, IsStored};
 ghost use Rattle.vale_line.specs.Lines.{LineState, is_out_at, slots_out, first_gots, IsLine, space_of, out_of, slots_of, leases_of, done_lots, behind_done, ready_gots, ready_frames, room_to_sync, completed, new_line, granted_sizes, with_lease, leased, given_by_sync, with_put, held_gots};
@@ -141,7 +143,7 @@ impl Line {
     /// A line of these buffers, which are idle. `clear` gives them back in the vector that is
     /// passed here, and so does `NoMemory` at once. No other call takes memory.
     pub fn new(alloc: Global, mut bufs: Vec<Buf>) -> Result<Line, (NoMemory, Vec<Buf>)>
-        requires size { (1 ≤ length bufs.items) × (length bufs.items ≤ 1024) }
+        requires size { (1 ≤ length bufs.items) × (length bufs.items ≤ most_ring) }
         ensures ok { IfOk result (λ line. line ≡ new_line bufs.items) }
         ensures err { IfErr result (λ fault. fault.1.items ≡ bufs.items) }
     {
@@ -184,6 +186,24 @@ impl Line {
         ensures line { IsLine self.now }
     {
         self.leases.ready()
+    }
+
+    /// The number of frames that a sync would hand out.
+    #[tactic(auto, using(crate::proofs::ReadyLemmas::line))]
+    pub fn ready_frames(&self) -> u32
+        ensures { result ≡ length (ready_frames self.now.lots) }
+    {
+        self.ring.ready_frames()
+    }
+
+    /// Puts the slots of each of these frames into an empty vector that has room for them.
+    #[tactic(auto, using(crate::proofs::ReadyLemmas::line))]
+    pub fn ready_sizes(&self, sizes: &mut Vec<u32>)
+        requires none { sizes.old.items ≡ [] }
+        requires room { length (ready_frames self.now.lots) ≤ vec_capacity sizes.old }
+        ensures { sizes.new.items ≡ map slots_of_bytes (ready_frames self.now.lots) }
+    {
+        self.ring.push_ready(sizes);
     }
 
     /// The number of buffers for which a sync wants room: none where it hands out one lot, whose own
@@ -260,6 +280,7 @@ impl Line {
         ensures line { self.new ≡ given_by_sync back.items self.old }
         ensures got { result.items ≡ ready_gots self.old.lots }
         ensures frames { frames_in result.items ≡ ready_frames self.old.lots }
+        ensures cut { IsCut result.items }
         ensures capacity { vec_capacity room ≤ vec_capacity result }
         ensures was { IsLine self.old }
     {
@@ -289,6 +310,7 @@ impl Line {
         requires new { is_there id.0 (leases_of self.old.lots) ≡ false }
         requires lent { length frames.old.items ≤ out_of self.old }
         requires single { All IsSingle frames.old.items }
+        requires fits { All FitsPart frames.old.items }
         ensures line { self.new ≡ with_put id frames.old.items self.old }
         ensures none { frames.new.items ≡ [] }
         ensures was { IsLine self.old }

@@ -1,15 +1,16 @@
 //! The cells of a receive ring, and the rights to them.
 ghost use Rattle.std.specs.Prelude.{◌≡◌, ◌+◌, ◌-◌, ◌≤◌, ◌<◌, ◌==◌, ◌^◌, [], ◌∷◌, ◌++◌, All, Some, length, take, drop, map, true, false, is_some, vec_len, vec_capacity, sum_by, slice_get, IfOk, IfErr, IfSome, IfNone, IsTrue};
 ghost use Rattle.std.specs.VecDeque.{deque_capacity};
+ghost use Rattle.nm_types.specs.Limits.{most_ring};
 ghost use Rattle.nm_reach.specs.Fields.{Meet, end_of};
 ghost use Rattle.vale_lease.specs.Leases.{AreLeases};
 ghost use Rattle.vale_line.specs.Cells.{AreFull, AreEmpty, gots_in, with_buffer};
 ghost use Rattle.vale_line.specs.Gots.{blank, buffers_of, last_count};
-ghost use Rattle.vale_line.specs.Lines.{is_out_at, leases_of, slots_out, completed, done_lots, first_gots, gots_of_first, out_of, new_line, with_lease, put_lot};
+ghost use Rattle.vale_line.specs.Lines.{is_out_at, leases_of, slots_out, completed, done_lots, first_gots, gots_of_first, ready_gots, ready_sizes, out_of, new_line, with_lease, put_lot};
 ghost use Rattle.vale_line.specs.Rings.{held, ring_state, IsAt, IsRing, IsRingWith};
 
 use crate::got::Got;
-use crate::lot::Lot;
+use crate::lot::{Lot, count_ready, push_ready};
 use crate::moves::{Cell, discard, joined, prepare, put_run_bufs, take_run, take_run_bufs};
 use nm_reach::{Field, Reach};
 use nm_region::Buf;
@@ -142,7 +143,7 @@ impl Shift {
 impl Ring {
     /// A ring of these buffers, which are idle. They are taken out of their vector.
     pub(crate) fn new(alloc: Global, bufs: &mut Vec<Buf>) -> Result<Ring, NoMemory>
-        requires size { (1 ≤ length bufs.old.items) × (length bufs.old.items ≤ 1024) }
+        requires size { (1 ≤ length bufs.old.items) × (length bufs.old.items ≤ most_ring) }
         ensures ring { IfOk result (λ ring. IsRing ring) }
         ensures line { IfOk result (λ ring. ring_state ring ≡ new_line bufs.old.items) }
         ensures none { IfOk result (λ _. bufs.new.items ≡ []) }
@@ -161,7 +162,7 @@ impl Ring {
 
     /// The ring of these cells, each with an idle buffer.
     fn filled(cells: Vec<Cell>, lots: VecDeque<Lot>) -> Ring
-        requires size { (1 ≤ length cells.items) × (length cells.items ≤ 1024) }
+        requires size { (1 ≤ length cells.items) × (length cells.items ≤ most_ring) }
         requires full { AreFull cells.items }
         requires blank { gots_in cells.items ≡ map blank (buffers_of (gots_in cells.items)) }
         requires lots { lots.items ≡ [] }
@@ -336,6 +337,25 @@ impl Ring {
             Some(lot) => self.is_first_done() && !lot.is_done(),
             None => self.is_first_done(),
         }
+    }
+
+    /// The number of frames that the longest prefix of done lots has.
+    pub(crate) fn ready_frames(&self) -> u32
+        requires { length (ready_gots (ring_state self.now).lots) < 2 ^ 32 }
+        ensures { result ≡ sum_by last_count (ready_gots (ring_state self.now).lots) }
+    {
+        count_ready(&self.lots)
+    }
+
+    /// Adds the slots of each of these frames.
+    pub(crate) fn push_ready(&self, sizes: &mut Vec<u32>)
+        requires room { vec_len sizes.old + length (ready_sizes (ring_state self.now).lots)
+            ≤ vec_capacity sizes.old }
+        ensures sizes { sizes.new.items
+            ≡ sizes.old.items ++ ready_sizes (ring_state self.now).lots }
+        ensures capacity { vec_capacity sizes.new ≡ vec_capacity sizes.old }
+    {
+        push_ready(&self.lots, sizes);
     }
 
     /// Takes the first lot out of the lots.

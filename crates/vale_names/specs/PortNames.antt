@@ -9,7 +9,7 @@ use Rattle.vale_names.specs.Ports.{names_of, has_name}
 abbrev pub HaveNamesOnce : List NamedPort → Type 0
 HaveNamesOnce ports = (name : List ℕ) → count_by (has_name name) ports ≤ 1
 
--- beside a name there are at most 16 ports of its switch, 32 pipe ends, or 32 monitors
+-- beside a name there are at most 254 ports of its switch, 32 pipe ends, or 32 monitors
 pub record IsNames (ports : List NamedPort) : Type 0 where
   pub once : HaveNamesOnce ports
   pub beside : (name : List ℕ) → count_by (is_beside name) (names_of ports) ≤ most_beside name

@@ -74,9 +74,9 @@ impl Names {
 
     /// Registers an open port of this name under a new id. `tx` and `rx` are the slots of its
     /// rings, and `extra` is the number of its extra buffers. The first refusal that applies is
-    /// answered: `BadSize` if a ring does not have 2 to 1024 slots (0 for the transmit ring of a
+    /// answered: `BadSize` if a ring does not have 2 to 4096 slots (0 for the transmit ring of a
     /// monitor), or if there are more than 1024 extra buffers; `SwitchesFull` if the name's switch
-    /// has no port and 4 switches have one; `PortsFull` if its switch has 16 ports or, for a name
+    /// has no port and 4 switches have one; `PortsFull` if its switch has 254 ports or, for a name
     /// of that kind, there are 32 pipe ends or 32 monitors; `NameTaken` if an open or shutting port
     /// has this name. No other fault is answered.
     pub fn open(

@@ -10,7 +10,7 @@ use Rattle.vale_entry.specs.declared.entry.Ask.{Ask}
 use Rattle.vale_entry.specs.declared.entry.Entry.{Entry}
 use Rattle.vale_entry.specs.declared.entry.Reply.{Reply}
 use Rattle.vale_entry.specs.World.{Port, open_port}
-use Rattle.vale_entry.specs.Arrivals.{arrivals_of, given_at}
+use Rattle.vale_entry.specs.Arrivals.{arrivals_of, delivered_parts, given_at}
 use Rattle.vale_entry.specs.Delivery.{ready_lots, delivered_frames}
 use Rattle.vale_entry.specs.Holdings.{PortBuffers, delivered_buffers, first_idle, is_buffer_index}
 use Rattle.vale_entry.specs.Legal.{Standing, standing_of, sync_step}
@@ -22,7 +22,7 @@ use Rattle.vale_entry.proofs.HistoryLaws.{history-stands}
 use Rattle.vale_own.specs.Own.{own_of}
 use Rattle.vale_own.specs.Side.{buffers_on}
 use Rattle.vale_own.specs.SideLaws.{ArrivalsAreApart, BuffersComeNew, IsNewTo}
-use Rattle.vale_own.proofs.Buffers.{session-counted, blank-buffers, frame-buffers, came-length}
+use Rattle.vale_own.proofs.Buffers.{session-counted, blank-buffers, frame-buffers, came-length, size-parts}
 
 -- a part of a list has a buffer no more often
 pub count-taken : (b n : ℕ) (xs : List ℕ) → count_of b (take n xs) + count_of b (drop n xs) ≡ count_of b xs
@@ -101,7 +101,7 @@ comes-quiet s ask by reply _ = λ b. omega arith
 comes-given : (s : Standing) (at : PortId) (port : Port) → open_port s.world.ports at.0 ≡ Some port → Numbered s → Held s
     → (b : ℕ) → count_of b (buffers_of_arrivals (given_at s at.0)) ≤ count_of b s.holdings.free + sum_by (at_port b) s.holdings.ports
 comes-given s at port e n h b =
-    let come = frame-buffers (delivered_buffers port.id (length (ready_lots port)) s.holdings.ports) (delivered_frames port) (came-length s at.0 port e n h) in
+    let come = frame-buffers (delivered_buffers port.id (length (ready_lots port)) s.holdings.ports) (delivered_parts port) (came-length s at.0 port e n h ∙ sym (size-parts (delivered_frames port))) in
     let part = delivered-counted b port.id (length (ready_lots port)) s.holdings.ports in
     rw e (rw come (omega (arith, part)))
 

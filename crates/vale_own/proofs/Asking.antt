@@ -5,6 +5,7 @@ use Rattle.std.proofs.lemmas.Map.Entries.{option_filter}
 use Rattle.std.specs.List.{AllByRecursion as Each, list_all}
 use Rattle.std.proofs.lemmas.Bool.{and_parts, eqb-true}
 use Rattle.std.proofs.Math.Bool.{and-false, and-true}
+use Rattle.nm_types.specs.Limits.{most_batch}
 use Rattle.nm_types.specs.Names.{is_name, is_switch_port_name, is_pipe_name, is_monitor_name}
 use Rattle.nm_types.specs.Sendable.{is_sendable}
 use Rattle.nm_types.specs.declared.id.Side.{Side}
@@ -119,7 +120,7 @@ receives session s k back p is = ap₂ (λ (a b : Bool). a && (nat_le (length ba
 
 puts : (session : ℕ) (s : Standing) → Sound s → (offered : List Item) (p : Port) → p.session ≡ session → can_put s offered p ≡ may_put (own_of session s) offered p
 puts session s k offered p is =
-    ap₂ (λ (a b : Bool). (is_pipe_name p.name && (a && (list_all is_pipe_item offered && b))) && nat_le (length offered) 1023) (settled session s k p.session is) (holds session s (indices_of offered) p.session is)
+    ap₂ (λ (a b : Bool). (is_pipe_name p.name && (a && (list_all is_pipe_item offered && b))) && nat_le (length offered) most_batch) (settled session s k p.session is) (holds session s (indices_of offered) p.session is)
 
 by-session : (by session : ℕ) (a b : Bool) → (by ≡ session → a ≡ b) → (a && (by == session)) ≡ (b && (by == session))
 by-session by session a b same = at (by == session) refl

@@ -1,11 +1,13 @@
 -- The buffers of leases, and those that a session's entries give up and bring.
-use Rattle.std.proofs.Common.{ℕ, ◌+◌, ◌≡◌, true, not, List, [], ◌∷◌, ◌++◌, map, take, drop, flat_map, length, append-nil, sum_by, filter, cond, Bool, false, ◌==◌, ◌≤◌, Option, Some, None, refl, sym, ◌∙◌, ap, arith}
+use Rattle.std.proofs.Common.{ℕ, ◌+◌, ◌≡◌, true, not, List, [], ◌∷◌, ◌++◌, map, take, drop, flat_map, length, append-nil, sum_by, filter, cond, Bool, false, ◌==◌, ◌≤◌, Option, Some, None, refl, sym, ◌∙◌, ap, arith, length-append}
 use Rattle.std.specs.Option.{option_map_or}
 use Rattle.std.specs.List.{AllByRecursion as Each, zip}
 use Rattle.std.proofs.lemmas.List.Elements.{All-from_recursion}
 use Rattle.std.proofs.lemmas.List.Sums.{sum_by-cons}
 use Rattle.std.proofs.lemmas.List.{length-map}
 use Rattle.nm_types.specs.Frames.{Frame, slots_of, size_of_frames}
+use Rattle.nm_types.specs.Parts.{HeldPart, cut_frame, cut_frames}
+use Rattle.nm_types.proofs.PartLemmas.{length-cut}
 use Rattle.nm_types.specs.OwnSyncs.{buffers_of_arrivals}
 use Rattle.nm_types.specs.declared.id.PortId.{PortId}
 use Rattle.vale_entry.specs.declared.entry.Ask.{Ask}
@@ -16,7 +18,7 @@ use Rattle.vale_entry.specs.declared.entry.Reply.{Reply}
 use Rattle.vale_entry.specs.World.{Port, Lot, open_port, is_owed_by}
 use Rattle.vale_entry.specs.Grant.{first_offer}
 use Rattle.vale_entry.specs.Pipe.{peer_of, indices_of, index_of_item}
-use Rattle.vale_entry.specs.Arrivals.{blank_arrival, frame_arrival, lent_arrivals, given_at, arrivals_of}
+use Rattle.vale_entry.specs.Arrivals.{blank_arrival, part_arrival, delivered_parts, lent_arrivals, given_at, arrivals_of}
 use Rattle.vale_entry.specs.Delivery.{ready_lots, delivered_frames}
 use Rattle.vale_entry.specs.Holdings.{PortBuffers, SessionBuffers, PortsAgree, is_buffer_index, buffers_without, buffers_of_session, contains, delivered_buffers, first_idle}
 use Rattle.vale_entry.specs.Laws.{Rise, id_of_held}
@@ -112,13 +114,18 @@ buffers-apart pool h session b legal =
     let parted : times_held b s.holdings ≡ cond (is_buffer_index pool b) 1 0 = k.held.parted b ∙ ap (λ (n : ℕ). cond (is_buffer_index n b) 1 0) k.pool_is in
     omega (arith, all, one, two, parted)
 
--- as many buffers are delivered as frames
-pub size-frames : (frames : List Frame) → size_of_frames frames ≡ length frames
-size-frames [] = refl
-size-frames (f ∷ fs) = let rest = size-frames fs in let sum = sum_by-cons slots_of f fs in omega (arith, rest, sum)
+-- as many buffers are delivered as parts
+pub size-parts : (frames : List Frame) → length (cut_frames (map (λ (f : Frame). f.bytes) frames)) ≡ size_of_frames frames
+size-parts [] = refl
+size-parts (f ∷ fs) =
+    let first = length-cut f.bytes in
+    let rest = size-parts fs in
+    let both = length-append (cut_frame f.bytes) (cut_frames (map (λ (f : Frame). f.bytes) fs)) in
+    let sum = sum_by-cons slots_of f fs in
+    omega (arith, first, rest, both, sum)
 
 pub came-length : (s : Standing) (id : ℕ) (port : Port) → open_port s.world.ports id ≡ Some port → Numbered s → Held s
-    → length (delivered_buffers port.id (length (ready_lots port)) s.holdings.ports) ≡ length (delivered_frames port)
+    → length (delivered_buffers port.id (length (ready_lots port)) s.holdings.ports) ≡ size_of_frames (delivered_frames port)
 came-length s id port e n h =
     let w = s.world in
     let p = open-place w.ports w.entry_count id port n.ports_rise e in
@@ -127,15 +134,15 @@ came-length s id port e n h =
     let found = delivered_buffers-place (length (ready_lots port)) s.holdings.ports w.entry_count p.place at.held rise at.here in
     let there : delivered_buffers port.id (length (ready_lots port)) s.holdings.ports ≡ flat_map (λ (list : List ℕ). list) (take (length (ready_lots port)) at.held.lots) =
     ap (λ (k : ℕ). delivered_buffers k (length (ready_lots port)) s.holdings.ports) (sym at.agrees.id) ∙ found in
-    ap length there ∙ (delivered-length port at.held at.agrees ∙ size-frames (delivered_frames port))
+    ap length there ∙ delivered-length port at.held at.agrees
 
 -- the buffers of arrivals
 pub blank-buffers : (bs : List ℕ) → buffers_of_arrivals (map blank_arrival bs) ≡ bs
 blank-buffers [] = refl
 blank-buffers (b ∷ bs) = ap (λ (cs : List ℕ). b ∷ cs) (blank-buffers bs)
 
-pub frame-buffers : (bs : List ℕ) (frames : List Frame) → length bs ≡ length frames → buffers_of_arrivals (map frame_arrival (zip bs frames)) ≡ bs
-frame-buffers [] frames e = refl
+pub frame-buffers : (bs : List ℕ) (parts : List HeldPart) → length bs ≡ length parts → buffers_of_arrivals (map part_arrival (zip bs parts)) ≡ bs
+frame-buffers [] parts e = refl
 frame-buffers (b ∷ bs) [] e = absurd (omega (arith, e))
 frame-buffers (b ∷ bs) (f ∷ fs) e = ap (λ (cs : List ℕ). b ∷ cs) (frame-buffers bs fs (omega (arith, e)))
 
@@ -164,7 +171,7 @@ moves-received : (s : Standing) (at : PortId) (back : List ℕ) (port : Port) �
     → (option_map_or (own_received s back (own_of session s)) (open_port s.world.ports at.0) (own_of session s)).buffers
     ≡ buffers_without back (own_of session s).buffers ++ buffers_of_arrivals (given_at s at.0)
 moves-received s at back port e n h session =
-    let come = frame-buffers (delivered_buffers port.id (length (ready_lots port)) s.holdings.ports) (delivered_frames port) (came-length s at.0 port e n h) in
+    let come = frame-buffers (delivered_buffers port.id (length (ready_lots port)) s.holdings.ports) (delivered_parts port) (came-length s at.0 port e n h ∙ sym (size-parts (delivered_frames port))) in
     rw e (ap (λ (cs : List ℕ). buffers_without back (own_of session s).buffers ++ cs) (sym come))
 
 moves-receives : (s : Standing) (ask : Ask) (at : PortId) (back : List ℕ) (port : Port) → Receives ask at back → open_port s.world.ports at.0 ≡ Some port → Numbered s → Held s

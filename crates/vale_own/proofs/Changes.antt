@@ -6,6 +6,7 @@ use Rattle.std.proofs.lemmas.List.Elements.{filter-append}
 use Rattle.std.proofs.lemmas.Bool.{eqb-true, ne_eqb}
 use Rattle.std.proofs.Math.Bool.{and-false}
 use Rattle.nm_types.specs.Frames.{Frame, slots_of, size_of_frames}
+use Rattle.nm_types.proofs.PartLemmas.{slots-some}
 use Rattle.vale_entry.specs.World.{Port, Lot, changed_at, is_owed_by, is_undone}
 use Rattle.vale_entry.specs.Grant.{with_lot}
 use Rattle.vale_entry.specs.Delivery.{is_done_lot, lot_after_done}
@@ -59,7 +60,8 @@ pub leases-with_lot : (session number by : ℕ) (done : Bool) (frames : List Fra
     → filter (is_lease_of session) (zip (with_lot number by done frames line) (with_lot_buffers (size_of_frames frames) held).lots) ≡ filter (is_lease_of session) (zip line held.lots)
 leases-with_lot session number by done [] line held same miss = refl
 leases-with_lot session number by done (frame ∷ frames) line held same miss =
-    let size : size_of_frames (frame ∷ frames) ≡ 1 + size_of_frames frames = sum_by-cons slots_of frame frames in
+    let size : size_of_frames (frame ∷ frames) ≡ slots_of frame + size_of_frames frames = sum_by-cons slots_of frame frames in
+    let first = slots-some (length frame.bytes) in
     let some : (size_of_frames (frame ∷ frames) == 0) ≡ false = ne_eqb (size_of_frames (frame ∷ frames)) 0 (λ e. omega arith) in
     let lot : Lot = record { number = number; session = by; frames = frame ∷ frames; is_done = done } in
     rw some (leases-pushed session line held.lots lot (take (size_of_frames (frame ∷ frames)) held.idle) same miss)

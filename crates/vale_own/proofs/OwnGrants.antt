@@ -1,10 +1,11 @@
 -- A grant makes a lease of its session behind all that it has.
-use Rattle.std.proofs.Common.{ℕ, ◌+◌, ◌<◌, ◌≤◌, ◌≡◌, Bool, true, false, cond, not, ◌&&◌, ◌||◌, ◌==◌, ◌⊎◌, inl, inr, List, [], ◌∷◌, ◌++◌, map, filter, flat_map, take, drop, append-nil, append_assoc, Option, Some, None, refl, sym, ◌∙◌, ap, ap₂, subst, arith}
+use Rattle.std.proofs.Common.{ℕ, ◌+◌, ◌<◌, ◌≤◌, ◌≡◌, Bool, true, false, cond, not, ◌&&◌, ◌||◌, ◌==◌, ◌⊎◌, inl, inr, List, [], ◌∷◌, ◌++◌, map, filter, flat_map, take, drop, append-nil, append_assoc, Option, Some, None, refl, sym, ◌∙◌, ap, ap₂, subst, arith, length}
 use Rattle.std.specs.List.{AllByRecursion as Each, list_any, zip}
 use Rattle.std.proofs.lemmas.Bool.{ne_eqb, eqb-true, eq-eqb}
 use Rattle.std.proofs.lemmas.List.Sums.{sum_by-cons}
 use Rattle.std.proofs.lemmas.List.Elements.{filter-append}
 use Rattle.nm_types.specs.Frames.{Frame, slots_of, size_of_frames}
+use Rattle.nm_types.proofs.PartLemmas.{slots-some}
 use Rattle.vale_entry.specs.World.{Port, Lot, Offer, is_owed_by, open_port, changed_at}
 use Rattle.vale_entry.specs.Grant.{first_offer, given_at, granted_frames, port_after_grant}
 use Rattle.vale_entry.specs.Closing.{is_port_of}
@@ -69,7 +70,8 @@ leases-granted session number to low frame frames (p ∷ ps) (h ∷ hs) high r a
     -- at the port itself
     here : leases_at session (change p, moved h) ≡ leases_at session (p, h) ++ lease (take (size_of_frames given) h.idle) ∷ []
     here =
-        let size : size_of_frames given ≡ 1 + size_of_frames frames = sum_by-cons slots_of frame frames in
+        let size : size_of_frames given ≡ slots_of frame + size_of_frames frames = sum_by-cons slots_of frame frames in
+        let first = slots-some (length frame.bytes) in
         let some : (size_of_frames given == 0) ≡ false = ne_eqb (size_of_frames given) 0 (λ e. omega arith) in
         let lot : Lot = record { number = number; session = session; frames = given; is_done = false } in
         let mine : is_owed_by session lot ≡ true = rw (eq-eqb session session refl) refl in

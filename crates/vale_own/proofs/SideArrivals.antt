@@ -4,6 +4,7 @@ use Rattle.std.specs.Prelude.{find}
 use Rattle.std.specs.Option.{option_map_or}
 use Rattle.std.proofs.lemmas.List.{length-map, length-drop, length-take-le}
 use Rattle.nm_types.specs.declared.id.PortId.{PortId}
+use Rattle.nm_types.specs.Frames.{size_of_frames}
 use Rattle.nm_types.specs.OwnPorts.{OwnPort, OwnState, Arrival, port_with_id}
 use Rattle.nm_types.specs.OwnSyncs.{buffers_of_arrivals}
 use Rattle.vale_entry.specs.declared.entry.Ask.{Ask}
@@ -12,7 +13,7 @@ use Rattle.vale_entry.specs.declared.entry.Item.{Item}
 use Rattle.vale_entry.specs.declared.entry.Reply.{Reply}
 use Rattle.vale_entry.specs.World.{Port, open_port, is_open_at}
 use Rattle.vale_entry.specs.Opening.{open_refusal}
-use Rattle.vale_entry.specs.Arrivals.{arrivals_of, given_at, given_arrivals, lent_arrivals, opened_arrivals, blank_arrival}
+use Rattle.vale_entry.specs.Arrivals.{arrivals_of, given_at, given_arrivals, lent_arrivals, opened_arrivals, blank_arrival, delivered_parts}
 use Rattle.vale_entry.specs.Delivery.{delivered_frames, ready_lots}
 use Rattle.vale_entry.specs.Holdings.{delivered_buffers, first_idle}
 use Rattle.vale_entry.specs.Laws.{Rise, id_of_held}
@@ -30,14 +31,14 @@ use Rattle.vale_own.specs.Own.{own_of, port_alone}
 use Rattle.vale_own.specs.Side.{port_of_side, IsSoundSideOf}
 use Rattle.vale_own.specs.SideLaws.{ComeAsMany, ArrivalsAreAsMany}
 use Rattle.vale_own.proofs.Sounds.{Sound, sound-of}
-use Rattle.vale_own.proofs.Buffers.{blank-buffers, frame-buffers, came-length, size-frames}
+use Rattle.vale_own.proofs.Buffers.{blank-buffers, frame-buffers, came-length, size-parts}
 use Rattle.vale_own.proofs.SideCalls.{seen-as, open-own, open-id}
 
--- a sync brings one for each frame
-pub given-count : (s : Standing) (at : PortId) (port : Port) → open_port s.world.ports at.0 ≡ Some port → Numbered s → Held s → length (given_at s at.0) ≡ length (delivered_frames port)
+-- a sync brings one for each part of a frame
+pub given-count : (s : Standing) (at : PortId) (port : Port) → open_port s.world.ports at.0 ≡ Some port → Numbered s → Held s → length (given_at s at.0) ≡ size_of_frames (delivered_frames port)
 given-count s at port e n h =
     let many = came-length s at.0 port e n h in
-    let bufs = frame-buffers (delivered_buffers port.id (length (ready_lots port)) s.holdings.ports) (delivered_frames port) many in
+    let bufs = frame-buffers (delivered_buffers port.id (length (ready_lots port)) s.holdings.ports) (delivered_parts port) (many ∙ sym (size-parts (delivered_frames port))) in
     let all : given_at s at.0 ≡ given_arrivals s port = ap (λ (o : Option Port). option_map_or (given_arrivals s) o []) e in
     sym (length-map (given_at s at.0) (λ (a : Arrival). a.buffer)) ∙ (ap (λ (came : List Arrival). length (buffers_of_arrivals came)) all ∙ (ap (λ (bs : List ℕ). length bs) bufs ∙ many))
 
@@ -50,9 +51,8 @@ given-room pool s shut side at port p stands known of e found =
     let rx : port.rx ≡ p.rx.ring.size = ap (λ (q : Port). q.rx) seen in
     let fits = (each-find HasRoom (is_open_at at.0) s.world.ports port stands.roomy.roomy e).fits in
     let size = delivered-size port in
-    let frames = size-frames (delivered_frames port) in
     let count = given-count s at port e stands.numbered stands.held in
-    omega (arith, out, rx, fits, size, frames, count)
+    omega (arith, out, rx, fits, size, count)
 
 -- a put one for each frame taken
 pub lent-count : (s : Standing) (offered : ℕ) (items : List Item) (port peer : Port) → CanKeep s offered items port → peer_of s.world.ports port ≡ Some peer → Numbered s → Held s → length (lent_arrivals s.holdings.ports peer.id (length items)) ≡ length items

@@ -4,6 +4,7 @@ use Rattle.std.specs.Prelude.{find}
 use Rattle.std.specs.List.{AllByRecursion as Each, list_all}
 use Rattle.std.proofs.lemmas.Bool.{cases_Bool, and_parts, eqb-true, eq-eqb, leb-true}
 use Rattle.std.proofs.lemmas.Bool.Decides.{nat_tests}
+use Rattle.nm_types.specs.Limits.{most_extra}
 use Rattle.nm_types.specs.Names.{is_name, is_monitor_name}
 use Rattle.nm_types.specs.declared.id.Sides.{Sides}
 use Rattle.nm_types.specs.SyncChecks.{contains_index}
@@ -188,12 +189,12 @@ module _ (pool : ℕ) (past : List Entry) (session : ℕ) (shut : Option ℕ) (s
         tx-held None is = refl
         tx-held (Some r) is = is.held
 
-    extra-few : length p.extra ≤ 1024
+    extra-few : length p.extra ≤ most_extra
     extra-few =
         let sizes = port-sized.1 in
-        let rings = and_parts _ (is_ring_size p.rx.ring.size && nat_le (length p.extra) 1024) sizes in
-        let most = and_parts (is_ring_size p.rx.ring.size) (nat_le (length p.extra) 1024) rings.1 in
-        leb-true (length p.extra) 1024 most.1
+        let rings = and_parts _ (is_ring_size p.rx.ring.size && nat_le (length p.extra) most_extra) sizes in
+        let most = and_parts (is_ring_size p.rx.ring.size) (nat_le (length p.extra) most_extra) rings.1 in
+        leb-true (length p.extra) most_extra most.1
 
     asked-finish : is_shut shut p.id.0 ≡ true → may_ask session own (finish_call side p) ≡ true
     asked-finish is-shut =
@@ -214,13 +215,13 @@ module _ (pool : ℕ) (past : List Entry) (session : ℕ) (shut : Option ℕ) (s
             by true le = omega arith
             by false le = le
 
-        both-fit : (found astray : ℕ) → found ≤ 1024 → astray ≤ 1024 → (fits_u32 found && fits_u32 astray) ≡ true
+        both-fit : (found astray : ℕ) → found ≤ most_extra → astray ≤ most_extra → (fits_u32 found && fits_u32 astray) ≡ true
         both-fit found astray one two = let first : fits_u32 found ≡ true = small found one in let second : fits_u32 astray ≡ true = small astray two in rw (first, second) refl
           where
-            small : (n : ℕ) → n ≤ 1024 → fits_u32 n ≡ true
+            small : (n : ℕ) → n ≤ most_extra → fits_u32 n ≡ true
             small n le = grind (arith, nat_tests)
 
-        chain-fits : (extras : List ℕ) (link : ℕ → ℕ) (head : ℕ) → length extras ≤ 1024 → fits_chain (chain_of extras link head) ≡ true
+        chain-fits : (extras : List ℕ) (link : ℕ → ℕ) (head : ℕ) → length extras ≤ most_extra → fits_chain (chain_of extras link head) ≡ true
         chain-fits extras link head few =
             let seen = seen-few (length extras) extras link [] head in
             both-fit (found_in_chain extras link head) (length extras - found_in_chain extras link head) (omega (arith, seen, few)) (omega (arith, few))

@@ -1,25 +1,29 @@
 -- What a user writes on its own side changes nothing of what is its session's own.
-use Rattle.std.proofs.Common.{ℕ, zero, suc, ◌<◌, ◌≤◌, ◌≡◌, ◌≢◌, Bool, true, false, cond, not, ◌&&◌, ◌==◌, nat_le, nat_lt, List, [], ◌∷◌, ◌++◌, map, set, drop, flat_map, length, get_or, Option, Some, None, is_none, option_map, refl, sym, ◌∙◌, ap, ap₂, subst, arith, inl, inr}
+use Rattle.std.proofs.Common.{ℕ, zero, suc, ◌+◌, ◌<◌, ◌≤◌, ◌≡◌, ◌≢◌, ◌||◌, Bool, true, false, cond, not, ◌&&◌, ◌==◌, nat_le, nat_lt, List, [], ◌∷◌, ◌++◌, map, set, drop, flat_map, length, get_or, Option, Some, None, is_none, option_map, refl, sym, ◌∙◌, ap, ap₂, subst, arith, inl, inr}
 use Rattle.std.specs.Prelude.{find, option_and_then}
+use Rattle.std.specs.Option.{option_map_or}
 use Rattle.std.specs.List.{AllByRecursion as Each}
-use Rattle.std.proofs.lemmas.Bool.{cases_Bool, and_parts, eq-eqb, leb-true}
+use Rattle.std.proofs.lemmas.Bool.{cases_Bool, and_parts, eq-eqb, eqb-true, leb-true}
 use Rattle.std.proofs.lemmas.Bool.Decides.{nat_tests}
 use Rattle.std.proofs.lemmas.List.{length-set, get_or-set_other}
 use Rattle.nm_types.specs.declared.id.Side.{Side}
 use Rattle.nm_types.specs.declared.id.Side.TheVariants.{Tx, Rx}
 use Rattle.nm_types.specs.declared.refusal.RingFault.{RingFault}
 use Rattle.nm_types.specs.declared.slot.SlotWrite.{SlotWrite}
-use Rattle.nm_types.specs.Positions.{IsRing, dist, step_on, pending_slots, is_user_slot}
+use Rattle.nm_types.specs.Positions.{RingState, IsRing, dist, step_on, pending_slots, is_user_slot}
 use Rattle.nm_types.specs.Slots.{SlotState}
 use Rattle.nm_types.specs.SyncChecks.{ring_refusal, contains_index}
 use Rattle.nm_types.specs.OwnPorts.{OwnRing, OwnPort, OwnState, bytes_at, with_bytes, ring_on, ring_at, buffers_in, held_if, named_of, slot_in, with_slot, index_of, blank_slot, port_if, with_ring, with_ring_on, port_with_id}
-use Rattle.nm_types.specs.OwnEdits.{SlotPlace, ring_at_positions, with_head, with_cur, with_positions, with_all_back, user_slot_at, with_user_slot, slot_written, with_written_slot, with_slot_field, slot_of_place, slot_naming, with_two_slots, with_slots_swapped, has_slot, slot_with_frame, ring_with_frame, with_written, with_frame_on, with_frame, ring_forwarding, with_one_forwarded, with_next_forwarded, with_forwarded, extra_number, with_head_of_chain, link_in, with_extra_link_in, with_extra_link}
-use Rattle.nm_types.proofs.RingSteps.{step_on-dist}
+use Rattle.nm_types.specs.OwnEdits.{SlotPlace, ring_at_positions, with_head, with_cur, with_positions, with_all_back, user_slot_at, with_user_slot, slot_written, with_written_slot, with_slot_field, slot_of_place, slot_naming, with_two_slots, with_slots_swapped, has_slots, slot_with_part, ring_with_part, with_written, with_part_on, with_part, with_parts, with_frame, ring_forwarding, sent_slot, with_slot_forwarded, with_heads_forwarded, with_slots_forwarded, frame_slots, can_forward, with_next_forwarded, with_forwarded, extra_number, with_head_of_chain, link_in, with_extra_link_in, with_extra_link}
+use Rattle.nm_types.specs.Parts.{slots_of_length, parts_of}
+use Rattle.nm_types.proofs.PartLemmas.{length-parts}
+use Rattle.nm_types.proofs.RingSteps.{dist-below, dist-add, dist_split, step_on-below, step_on-dist}
 use Rattle.vale_entry.proofs.Counting.{count_of, count_of-append}
+use Rattle.vale_entry.proofs.ListLaws.{place-of}
 use Rattle.vale_entry.proofs.Each.{each-map, each-find, each-both}
 use Rattle.vale_own.specs.Side.{buffers_on, port_of_side, IsPending, IsTxRing, IsTxRingIf, IsRxRing, IsSoundPort, IsSound}
 use Rattle.vale_own.specs.SideEdits.{KeepsSides, EditsKeepSides}
-use Rattle.vale_own.proofs.SidePlaces.{count-at, in-ports, all-named-counted}
+use Rattle.vale_own.proofs.SidePlaces.{count-at, in-ports, all-named-counted, tx-sound}
 use Rattle.vale_own.proofs.SideExchange.{ring-passes}
 use Rattle.vale_own.proofs.SideSound.{pending-apart, each-pending}
 use Rattle.vale_own.proofs.SideMoves.{changed-each, changed-ids, changed-same}
@@ -174,39 +178,61 @@ ring-found side s id r at = by (port_with_id s id) refl at
     by None is e = absurd cc
     by (Some p) is e = record { port = p; found = is; has = e }
 
--- a ring that has a slot at its head: the slot is the user's
-head-is-user : (r : OwnRing) → IsRing r.ring → has_slot r ≡ true → is_user_slot r.ring r.ring.head ≡ true
-head-is-user r is has =
-    let parts = and_parts (is_none (ring_refusal r.ring r.ring.head r.ring.cur)) (not (r.ring.head == r.ring.tail)) has in
+-- so many slots from a position on are the user's
+abbrev Ahead : ℕ → RingState → ℕ → Type 0
+Ahead zero ring at = Unit {0}
+Ahead (suc count) ring at = (is_user_slot ring at ≡ true) × Ahead count ring (step_on ring.size at 1)
+
+-- which positions of the user do not change
+record SameBounds (ring now : RingState) : Type 0 where
+  size : now.size ≡ ring.size
+  accepted : now.accepted_head ≡ ring.accepted_head
+  tail : now.last_tail ≡ ring.last_tail
+
+ahead-same : (count : ℕ) (ring now : RingState) (at : ℕ) → SameBounds ring now → Ahead count ring at → Ahead count now at
+ahead-same zero ring now at same all = tt
+ahead-same (suc count) ring now at same all =
+    let user : is_user_slot now at ≡ is_user_slot ring at = rw (same.size, same.accepted, same.tail) refl in
+    let next : step_on now.size at 1 ≡ step_on ring.size at 1 = ap (λ (n : ℕ). step_on n at 1) same.size in
+    (user ∙ all.0, subst (Ahead count now) (sym next) (ahead-same count ring now (step_on ring.size at 1) same all.1))
+
+both-true : (a b c d : ℕ) → a < b → c < d → (nat_lt a b && nat_lt c d) ≡ true
+both-true a b c d first second = let one : nat_lt a b ≡ true = grind (arith, nat_tests) in let two : nat_lt c d ≡ true = grind (arith, nat_tests) in rw (one, two) refl
+
+ahead-from : (count : ℕ) (ring : RingState) (at : ℕ) → IsRing ring → at < ring.size → dist ring.size ring.accepted_head at + count ≤ dist ring.size ring.accepted_head ring.last_tail → Ahead count ring at
+ahead-from zero ring at is within room = tt
+ahead-from (suc count) ring at is within room =
+    let most = dist-below ring.size ring.accepted_head ring.last_tail is.accepted in
+    let next = dist-add ring.size ring.accepted_head at 1 is.accepted within (omega (arith, room, most)) in (
+      both-true at ring.size (dist ring.size ring.accepted_head at) (dist ring.size ring.accepted_head ring.last_tail) within (omega (arith, room)),
+      ahead-from count ring (step_on ring.size at 1) is (step_on-below ring.size at 1 within) (omega (arith, next, room)),
+    )
+
+ahead-less : (count : ℕ) (ring : RingState) (at : ℕ) → Ahead (suc count) ring at → Ahead count ring at
+ahead-less zero ring at all = tt
+ahead-less (suc count) ring at all = (all.0, ahead-less count ring (step_on ring.size at 1) all.1)
+
+-- a ring that has so many slots from its head on
+has-ahead : (count : ℕ) (r : OwnRing) → IsRing r.ring → has_slots count r ≡ true → Ahead count r.ring r.ring.head
+has-ahead count r is has =
+    let parts = and_parts (is_none (ring_refusal r.ring r.ring.head r.ring.cur)) (nat_le count (dist r.ring.size r.ring.head r.ring.tail)) has in
     let fits = ring-passes r.ring (none-is (ring_refusal r.ring r.ring.head r.ring.cur) parts.0) in
     let tail : r.ring.last_tail < r.ring.size = (let w = is.within in let o = is.one_tail in omega arith) in
-    let reach = fits.head_reach in
-    let apart : dist r.ring.size r.ring.accepted_head r.ring.head ≢ dist r.ring.size r.ring.accepted_head r.ring.last_tail = (λ same.
-    let steps : r.ring.head ≡ r.ring.last_tail = sym (step_on-dist r.ring.size r.ring.accepted_head r.ring.head is.accepted fits.head_within) ∙ (ap (step_on r.ring.size r.ring.accepted_head) same ∙ step_on-dist r.ring.size r.ring.accepted_head r.ring.last_tail is.accepted tail) in
-    let both = eq-eqb r.ring.head r.ring.tail (steps ∙ sym is.one_tail) in
-    not-both (r.ring.head == r.ring.tail) both parts.1) in
-    both-true r.ring.head r.ring.size (dist r.ring.size r.ring.accepted_head r.ring.head) (dist r.ring.size r.ring.accepted_head r.ring.last_tail) fits.head_within (below (dist r.ring.size r.ring.accepted_head r.ring.head) (dist r.ring.size r.ring.accepted_head r.ring.last_tail) reach apart)
+    let enough = leb-true count (dist r.ring.size r.ring.head r.ring.tail) parts.1 in
+    let same : dist r.ring.size r.ring.head r.ring.tail ≡ dist r.ring.size r.ring.head r.ring.last_tail = ap (dist r.ring.size r.ring.head) is.one_tail in
+    let split = dist_split r.ring.size r.ring.accepted_head r.ring.head r.ring.last_tail is.accepted fits.head_within tail fits.head_reach in
+    ahead-from count r.ring r.ring.head is fits.head_within (omega (arith, enough, same, split))
   where
     none-is : (o : Option RingFault) → is_none o ≡ true → o ≡ None
     none-is None e = refl
     none-is (Some fault) e = absurd cc
 
-    not-both : (b : Bool) → b ≡ true → not b ≡ true → ⊥
-    not-both true e f = cc
-    not-both false e f = cc
-
-    below : (a b : ℕ) → a ≤ b → a ≢ b → a < b
-    below a b le other = omega (arith, le, other)
-
-    both-true : (a b c d : ℕ) → a < b → c < d → (nat_lt a b && nat_lt c d) ≡ true
-    both-true a b c d first second = let one : nat_lt a b ≡ true = grind (arith, nat_tests) in let two : nat_lt c d ≡ true = grind (arith, nat_tests) in rw (one, two) refl
-
 ring-is : (side : Side) (r : OwnRing) → RingSound side r → IsRing r.ring
 ring-is Tx r is = is.positions
 ring-is Rx r is = is.positions
 
-head-written : (side : Side) (head cur : ℕ) (slot : SlotState) (r : OwnRing) → has_slot r ≡ true → RingSound side r → RingSound side (ring_at_positions head cur (with_slot side r.ring.head slot r))
-head-written side head cur slot r has is = moved-sound side head cur (with_slot side r.ring.head slot r) (written-sound side r.ring.head slot r (head-is-user r (ring-is side r is) has) is)
+head-written : (side : Side) (head cur : ℕ) (slot : SlotState) (r : OwnRing) → is_user_slot r.ring r.ring.head ≡ true → RingSound side r → RingSound side (ring_at_positions head cur (with_slot side r.ring.head slot r))
+head-written side head cur slot r user is = moved-sound side head cur (with_slot side r.ring.head slot r) (written-sound side r.ring.head slot r user is)
 
 -- positions, slots and links
 positions-edited : (side : Side) (id head cur : ℕ) (s : OwnState) → IsSound s → Edited s (with_positions side id head cur s)
@@ -317,34 +343,12 @@ written-edited idx bytes s sound = by (contains_index (named_of s) idx) refl
     by true named = bytes-edited idx (bytes ++ drop (length bytes) (bytes_at s idx)) s sound (all-named-counted s.ports idx sound.each named)
     by false named = edited-same s sound
 
-written-ports : (idx : ℕ) (bytes : List ℕ) (s : OwnState) → (with_written idx bytes s).ports ≡ s.ports
+pub written-ports : (idx : ℕ) (bytes : List ℕ) (s : OwnState) → (with_written idx bytes s).ports ≡ s.ports
 written-ports idx bytes s = by (contains_index (named_of s) idx)
   where
     by : (b : Bool) → (cond b (with_bytes idx (bytes ++ drop (length bytes) (bytes_at s idx)) s) s).ports ≡ s.ports
     by true = refl
     by false = refl
-
-frame-edited : (id : ℕ) (bytes : List ℕ) (s : OwnState) → IsSound s → Edited s (with_frame id bytes s)
-frame-edited id bytes s sound = by (ring_at Tx s id) refl
-  where
-    framed : (r : OwnRing) → ring_at Tx s id ≡ Some r → has_slot r ≡ true → Edited s (with_ring Tx id (ring_with_frame bytes) (with_written (slot_in Tx r r.ring.head).buf_idx bytes s))
-    framed r at has =
-        let idx = (slot_in Tx r r.ring.head).buf_idx in
-        let t = with_written idx bytes s in
-        let first = written-edited idx bytes s sound in
-        let f = ring-found Tx s id r at in
-        let there : port_with_id t id ≡ Some f.port = ap (find (λ (p : OwnPort). p.id.0 == id)) (written-ports idx bytes s) ∙ f.found in
-        edited-twice s t (with_ring Tx id (ring_with_frame bytes) t) first
-        (found-edited Tx (ring_with_frame bytes) (λ q. refl) (λ q. refl) id t f.port r first.sound there f.has
-        (head-written Tx (step_on r.ring.size r.ring.head 1) (step_on r.ring.size r.ring.head 1) (slot_with_frame bytes (slot_in Tx r r.ring.head)) r has))
-
-    by : (o : Option OwnRing) → ring_at Tx s id ≡ o → Edited s (with_frame_on id bytes s o)
-    by None at = edited-same s sound
-    by (Some r) at = on (has_slot r) refl
-      where
-        on : (b : Bool) → has_slot r ≡ b → Edited s (cond b (with_ring Tx id (ring_with_frame bytes) (with_written (slot_in Tx r r.ring.head).buf_idx bytes s)) s)
-        on true has = framed r at has
-        on false has = edited-same s sound
 
 -- frames forwarded
 find-changed : (id at : ℕ) (change : OwnPort → OwnPort) → ((q : OwnPort) → (change q).id ≡ q.id) → (ports : List OwnPort) (p : OwnPort) → find (λ (q : OwnPort). q.id.0 == at) ports ≡ Some p
@@ -377,39 +381,141 @@ rx-forwarding slot r is = record {
   held = is.held;
 }
 
-one-forwarded : (from to : ℕ) (got free : SlotState) (tx : OwnRing) (s : OwnState) → IsSound s → ring_at Tx s to ≡ Some tx → has_slot tx ≡ true → Edited s (with_one_forwarded from to got free s)
-one-forwarded from to got free tx s sound at has =
+-- the transmit ring of a port, with so many slots of the user from its head on
+record HasAhead (id count : ℕ) (s : OwnState) : Type 0 where
+  ring : OwnRing
+  there : ring_at Tx s id ≡ Some ring
+  ahead : Ahead count ring.ring ring.ring.head
+
+pub ring-there : (id : ℕ) (f : OwnRing → OwnRing) (s : OwnState) (r : OwnRing) → ring_at Tx s id ≡ Some r → ring_at Tx (with_ring Tx id f s) id ≡ Some (f r)
+ring-there id f s r at =
+    let found = ring-found Tx s id r at in
+    let there = find-changed id id (with_ring_on Tx f) (λ q. refl) s.ports found.port found.found in
+    let here : (found.port.id.0 == id) ≡ true = eq-eqb found.port.id.0 id (eqb-true found.port.id.0 id (place-of (λ (q : OwnPort). q.id.0 == id) s.ports found.port found.found).passes) in
+    ap (option_and_then (ring_on Tx)) there ∙ rw here (ap (option_map f) found.has)
+
+-- a frame put, part by part
+part-edited : (id count : ℕ) (more : Bool) (part : List ℕ) (s : OwnState) → IsSound s → HasAhead id (suc count) s → Edited s (with_part id more part s) × HasAhead id count (with_part id more part s)
+part-edited id count more part s sound h =
+    let r = h.ring in
+    let idx = (slot_in Tx r r.ring.head).buf_idx in
+    let t = with_written idx part s in
+    let first = written-edited idx part s sound in
+    let f = ring-found Tx s id r h.there in
+    let there : port_with_id t id ≡ Some f.port = ap (find (λ (p : OwnPort). p.id.0 == id)) (written-ports idx part s) ∙ f.found in
+    let at : ring_at Tx t id ≡ Some r = ap (option_and_then (ring_on Tx)) there ∙ f.has in
+    let is : with_part id more part s ≡ with_ring Tx id (ring_with_part more part) t = ap (with_part_on id more part s) h.there in
+    let edited = edited-twice s t (with_ring Tx id (ring_with_part more part) t) first
+    (found-edited Tx (ring_with_part more part) (λ q. refl) (λ q. refl) id t f.port r first.sound there f.has
+    (head-written Tx (step_on r.ring.size r.ring.head 1) (step_on r.ring.size r.ring.head 1) (slot_with_part more part (slot_in Tx r r.ring.head)) r h.ahead.0)) in (
+      subst (Edited s) (sym is) edited,
+      record {
+        ring = ring_with_part more part r;
+        there = ap (λ (u : OwnState). ring_at Tx u id) is ∙ ring-there id (ring_with_part more part) t r at;
+        ahead = ahead-same count r.ring (ring_with_part more part r).ring (step_on r.ring.size r.ring.head 1) (record { size = refl; accepted = refl; tail = refl }) h.ahead.1;
+      },
+    )
+
+parts-edited : (id : ℕ) (parts : List (List ℕ)) (s : OwnState) → IsSound s → HasAhead id (length parts) s → Edited s (with_parts id parts s)
+parts-edited id [] s sound h = edited-same s sound
+parts-edited id (part ∷ parts) s sound h =
+    let more = not (length parts == 0) in
+    let one = part-edited id (length parts) more part s sound h in
+    let t = with_part id more part s in
+    edited-twice s t (with_parts id parts t) one.0 (parts-edited id parts t one.0.sound one.1)
+
+ring-sound : (s : OwnState) (id : ℕ) (r : OwnRing) → IsSound s → ring_at Tx s id ≡ Some r → IsRing r.ring
+ring-sound s id r sound at =
+    let f = ring-found Tx s id r at in
+    let port = each-find IsSoundPort (λ (q : OwnPort). q.id.0 == id) s.ports f.port sound.each f.found in
+    (tx-sound f.port r port f.has).positions
+
+frame-edited : (id : ℕ) (bytes : List ℕ) (s : OwnState) → IsSound s → Edited s (with_frame id bytes s)
+frame-edited id bytes s sound = by (ring_at Tx s id) refl
+  where
+    n : ℕ
+    n = slots_of_length (length bytes)
+
+    by : (o : Option OwnRing) → ring_at Tx s id ≡ o → Edited s (cond (option_map_or (has_slots n) o false) (with_parts id (parts_of bytes) s) s)
+    by None at = edited-same s sound
+    by (Some r) at = on (has_slots n r) refl
+      where
+        on : (b : Bool) → has_slots n r ≡ b → Edited s (cond b (with_parts id (parts_of bytes) s) s)
+        on true has =
+            let count : length (parts_of bytes) ≡ n = length-parts n bytes in
+            let ahead = has-ahead n r (ring-sound s id r sound at) has in
+            parts-edited id (parts_of bytes) s sound (record { ring = r; there = at; ahead = subst (λ (m : ℕ). Ahead m r.ring r.ring.head) (sym count) ahead })
+        on false has = edited-same s sound
+
+-- slots forwarded, one by one
+one-forwarded : (from to count : ℕ) (got free : SlotState) (s : OwnState) → IsSound s → HasAhead to (suc count) s
+    → Edited s (with_slot_forwarded from to got free s) × HasAhead to count (with_slot_forwarded from to got free s)
+one-forwarded from to count got free s sound h =
+    let tx = h.ring in
     let back = ring_forwarding Rx (slot_naming true free.buf_idx got) in
-    let slot = record (slot_naming true got.buf_idx free) { len = got.len } in
+    let slot = sent_slot got free in
     let t = with_ring Rx from back s in
     let first = ring-edited Rx back (λ r. refl) (λ r. refl) from (rx-forwarding (slot_naming true free.buf_idx got)) s sound in
-    let f = ring-found Tx s to tx at in
+    let f = ring-found Tx s to tx h.there in
     let there : port_with_id t to ≡ Some (port_if from (with_ring_on Rx back) f.port) = find-changed from to (with_ring_on Rx back) (λ q. refl) s.ports f.port f.found in
     let still : (port_if from (with_ring_on Rx back) f.port).tx ≡ Some tx = tx-still back f.port (f.port.id.0 == from) ∙ f.has in
-    edited-twice s t (with_ring Tx to (ring_forwarding Tx slot) t) first
-    (found-edited Tx (ring_forwarding Tx slot) (λ r. refl) (λ r. refl) to t (port_if from (with_ring_on Rx back) f.port) tx first.sound there still
-    (head-written Tx (step_on tx.ring.size tx.ring.head 1) (step_on tx.ring.size tx.ring.cur 1) slot tx has))
+    let at : ring_at Tx t to ≡ Some tx = ap (option_and_then (ring_on Tx)) there ∙ still in (
+      edited-twice s t (with_ring Tx to (ring_forwarding Tx slot) t) first
+          (found-edited Tx (ring_forwarding Tx slot) (λ r. refl) (λ r. refl) to t (port_if from (with_ring_on Rx back) f.port) tx first.sound there still
+          (head-written Tx (step_on tx.ring.size tx.ring.head 1) (step_on tx.ring.size tx.ring.cur 1) slot tx h.ahead.0)),
+      record {
+        ring = ring_forwarding Tx slot tx;
+        there = ring-there to (ring_forwarding Tx slot) t tx at;
+        ahead = ahead-same count tx.ring (ring_forwarding Tx slot tx).ring (step_on tx.ring.size tx.ring.head 1) (record { size = refl; accepted = refl; tail = refl }) h.ahead.1;
+      },
+    )
   where
     tx-still : (change : OwnRing → OwnRing) (q : OwnPort) (b : Bool) → (cond b (with_ring_on Rx change q) q).tx ≡ q.tx
     tx-still change q true = refl
     tx-still change q false = refl
 
-forward-edited : (count from to : ℕ) (s : OwnState) → IsSound s → Edited s (with_forwarded count from to s)
-forward-edited zero from to s sound = edited-same s sound
-forward-edited (suc count) from to s sound = by (ring_at Rx s from) (ring_at Tx s to) refl (forward-edited count from to)
+slots-forwarded : (count from to : ℕ) (s : OwnState) → IsSound s → HasAhead to count s → Edited s (with_slots_forwarded count from to s)
+slots-forwarded zero from to s sound h = edited-same s sound
+slots-forwarded (suc count) from to s sound h = by (ring_at Rx s from) (slots-forwarded count from to)
   where
-    by : (a b : Option OwnRing) → ring_at Tx s to ≡ b → ((t : OwnState) → IsSound t → Edited t (with_forwarded count from to t)) → Edited s (with_next_forwarded (with_forwarded count from to) from to s a b)
+    by : (o : Option OwnRing) → ((t : OwnState) → IsSound t → HasAhead to count t → Edited t (with_slots_forwarded count from to t))
+        → Edited s (with_slots_forwarded count from to (with_heads_forwarded from to s o (ring_at Tx s to)))
+    by None others = others s sound (fewer h)
+      where
+        fewer : HasAhead to (suc count) s → HasAhead to count s
+        fewer h = record { ring = h.ring; there = h.there; ahead = ahead-less count h.ring.ring h.ring.ring.head h.ahead }
+    by (Some rx) others =
+        let tx = h.ring in
+        let got = slot_in Rx rx rx.ring.head in
+        let free = slot_in Tx tx tx.ring.head in
+        let one = one-forwarded from to count got free s sound h in
+        let t = with_slot_forwarded from to got free s in
+        let is : with_heads_forwarded from to s (Some rx) (ring_at Tx s to) ≡ t = ap (with_heads_forwarded from to s (Some rx)) h.there in
+        subst (λ (u : OwnState). Edited s (with_slots_forwarded count from to u)) (sym is)
+        (edited-twice s t (with_slots_forwarded count from to t) one.0 (others t one.0.sound one.1))
+
+forward-edited : (whole : Bool) (count from to : ℕ) (s : OwnState) → IsSound s → Edited s (with_forwarded whole count from to s)
+forward-edited whole zero from to s sound = edited-same s sound
+forward-edited whole (suc count) from to s sound = by (ring_at Rx s from) (ring_at Tx s to) refl (forward-edited whole count from to)
+  where
+    by : (a b : Option OwnRing) → ring_at Tx s to ≡ b → ((t : OwnState) → IsSound t → Edited t (with_forwarded whole count from to t)) → Edited s (with_next_forwarded (with_forwarded whole count from to) whole from to s a b)
     by None b at others = edited-same s sound
     by (Some rx) None at others = edited-same s sound
-    by (Some rx) (Some tx) at others = on (has_slot rx) (has_slot tx) refl
+    by (Some rx) (Some tx) at others = on (can_forward whole rx tx) refl
       where
-        on : (a b : Bool) → has_slot tx ≡ b → Edited s (cond (a && b) (with_forwarded count from to (with_one_forwarded from to (slot_in Rx rx rx.ring.head) (slot_in Tx tx tx.ring.head) s)) s)
-        on true true has =
-            let first = one-forwarded from to (slot_in Rx rx rx.ring.head) (slot_in Tx tx tx.ring.head) tx s sound at has in
-            let t = with_one_forwarded from to (slot_in Rx rx rx.ring.head) (slot_in Tx tx tx.ring.head) s in
-            edited-twice s t (with_forwarded count from to t) first (others t first.sound)
-        on true false has = edited-same s sound
-        on false b has = edited-same s sound
+        n : ℕ
+        n = frame_slots rx
+
+        on : (b : Bool) → can_forward whole rx tx ≡ b → Edited s (cond b (with_forwarded whole count from to (with_slots_forwarded n from to s)) s)
+        on true can =
+            let some = and_parts (nat_lt 0 n) (has_slots n rx && (has_slots n tx && (not whole || n == 1))) can in
+            let here = and_parts (has_slots n rx) (has_slots n tx && (not whole || n == 1)) some.1 in
+            let there = and_parts (has_slots n tx) (not whole || n == 1) here.1 in
+            let ahead = has-ahead n tx (ring-sound s to tx sound at) there.0 in
+            let first = slots-forwarded n from to s sound (record { ring = tx; there = at; ahead = ahead }) in
+            let t = with_slots_forwarded n from to s in
+            edited-twice s t (with_forwarded whole count from to t) first (others t first.sound)
+        on false can = edited-same s sound
 
 pub edits-keep : EditsKeepSides
 edits-keep = record {
@@ -422,7 +528,7 @@ edits-keep = record {
   slots_swapped = λ announce here there. edited-kept (with_slots_swapped announce here there) (swap-edited announce here there);
   written = λ idx bytes. edited-kept (with_written idx bytes) (written-edited idx bytes);
   frame = λ id bytes. edited-kept (with_frame id bytes) (frame-edited id bytes);
-  forwarded = λ count from to. edited-kept (with_forwarded count from to) (forward-edited count from to);
+  forwarded = λ whole count from to. edited-kept (with_forwarded whole count from to) (forward-edited whole count from to);
   head_of_chain = λ id idx. edited-kept (with_head_of_chain id idx) (chain-edited id idx);
   extra_link = λ id from to. edited-kept (with_extra_link id from to) (link-edited id from to);
 }

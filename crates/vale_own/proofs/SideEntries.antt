@@ -99,9 +99,9 @@ calls-keep pool past session shut side ask reply k e call =
     }
 
 pub transmits-of : TransmitsAreOfSide
-transmits-of pool past session shut side p r reply found has e = by (refusal_in Tx side r) (is_pipe_name p.name) refl refl e
+transmits-of pool past session shut side p r reply found has e = by (refusal_in Tx side p r) (is_pipe_name p.name) refl refl e
   where
-    by : (o : Option SyncFault) (pipe : Bool) → refusal_in Tx side r ≡ o → is_pipe_name p.name ≡ pipe
+    by : (o : Option SyncFault) (pipe : Bool) → refusal_in Tx side p r ≡ o → is_pipe_name p.name ≡ pipe
         → option_map session_and_reply (step (standing_of pool past) (or_reset o p.id Tx (cond pipe (Put p.id (offered_items side r)) (Send p.id (pushed_frames (bytes_at side) (pushed_in Tx r)))))) ≡ Some (session, reply)
         → IsOfSide shut side (kept_ask (or_reset o p.id Tx (cond pipe (Put p.id (offered_items side r)) (Send p.id (pushed_frames (bytes_at side) (pushed_in Tx r)))))) reply
     by (Some fault) pipe passes name stepped = tt
@@ -115,9 +115,9 @@ transmits-of pool past session shut side p r reply found has e = by (refusal_in 
     by None false passes name stepped = record { port = p; ring = r; found = found; has = has; is = rw (passes, name) refl }
 
 pub receives-of : ReceivesAreOfSide
-receives-of shut side p reply found = by (refusal_in Rx side p.rx) (is_pipe_name p.name) refl refl
+receives-of shut side p reply found = by (refusal_in Rx side p p.rx) (is_pipe_name p.name) refl refl
   where
-    by : (o : Option SyncFault) (pipe : Bool) → refusal_in Rx side p.rx ≡ o → is_pipe_name p.name ≡ pipe
+    by : (o : Option SyncFault) (pipe : Bool) → refusal_in Rx side p p.rx ≡ o → is_pipe_name p.name ≡ pipe
         → IsOfSide shut side (kept_ask (or_reset o p.id Rx (cond pipe (Get p.id (back_in p)) (Sync p.id (back_in p))))) reply
     by (Some fault) pipe passes name = tt
     by None true passes name = record { port = p; found = found; is = rw (passes, name) refl }

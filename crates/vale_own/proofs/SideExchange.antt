@@ -11,7 +11,7 @@ use Rattle.nm_types.specs.SyncFaults.{ring_sync_fault}
 use Rattle.nm_types.specs.Positions.{RingState, IsRing, FitsRing, dist, step_on, pushed_slots}
 use Rattle.nm_types.specs.Slots.{Pushed, pushed_names}
 use Rattle.nm_types.specs.SyncChecks.{is_beyond, ring_refusal, slots_refusal, contains_index, EachPasses}
-use Rattle.nm_types.specs.OwnPorts.{OwnRing, OwnPort, OwnState, ring_on, ring_at, buffers_in, named_of, index_of, buffer_in, port_with_id, pushed_at, pushed_in, refusal_in}
+use Rattle.nm_types.specs.OwnPorts.{OwnRing, OwnPort, OwnState, ring_on, ring_at, buffers_in, named_of, index_of, buffer_in, port_with_id, pushed_at, pushed_in, is_whole, refusal_in}
 use Rattle.nm_types.specs.OwnSyncs.{buffer_on, after_slot, after_exchange}
 use Rattle.nm_types.proofs.RingChecks.{Fits-from_beyond}
 use Rattle.nm_types.proofs.RingSteps.{dist-below, step_on-below, slots_from-distinct}
@@ -38,13 +38,13 @@ ring-none : (o : Option RingFault) → option_map ring_sync_fault o ≡ None →
 ring-none None e = refl
 ring-none (Some fault) e = absurd cc
 
-pub sync-fits : (side : Side) (s : OwnState) (r : OwnRing) → refusal_in side s r ≡ None → FitsRing r.ring r.ring.head r.ring.cur
-sync-fits side s r e =
-    ring-passes r.ring (ring-none (ring_refusal r.ring r.ring.head r.ring.cur) (first_none (option_map ring_sync_fault (ring_refusal r.ring r.ring.head r.ring.cur)) (slots_refusal side s.pool (named_of s) [] (pushed_in side r)) e))
+pub sync-fits : (side : Side) (s : OwnState) (p : OwnPort) (r : OwnRing) → refusal_in side s p r ≡ None → FitsRing r.ring r.ring.head r.ring.cur
+sync-fits side s p r e =
+    ring-passes r.ring (ring-none (ring_refusal r.ring r.ring.head r.ring.cur) (first_none (option_map ring_sync_fault (ring_refusal r.ring r.ring.head r.ring.cur)) (slots_refusal side (is_whole p) s.pool (named_of s) [] 0 (pushed_in side r)) e))
 
-pub sync-passes : (side : Side) (s : OwnState) (r : OwnRing) → refusal_in side s r ≡ None → EachPasses side s.pool (named_of s) [] (pushed_in side r)
-sync-passes side s r e =
-    EachPasses-from_none side s.pool (named_of s) [] (pushed_in side r) (later_none (option_map ring_sync_fault (ring_refusal r.ring r.ring.head r.ring.cur)) (slots_refusal side s.pool (named_of s) [] (pushed_in side r)) e)
+pub sync-passes : (side : Side) (s : OwnState) (p : OwnPort) (r : OwnRing) → refusal_in side s p r ≡ None → EachPasses side (is_whole p) s.pool (named_of s) [] 0 (pushed_in side r)
+sync-passes side s p r e =
+    EachPasses-from_none side (is_whole p) s.pool (named_of s) [] 0 (pushed_in side r) (later_none (option_map ring_sync_fault (ring_refusal r.ring r.ring.head r.ring.cur)) (slots_refusal side (is_whole p) s.pool (named_of s) [] 0 (pushed_in side r)) e)
 
 -- what holds of each pushed slot, by its position
 each-pushed : (side : Side) (r : OwnRing) (P : Pushed → Type 0) → (ats : List ℕ) → Each (λ (at : ℕ). P (pushed_at side r at)) ats → Each P (map (pushed_at side r) ats)
@@ -64,7 +64,7 @@ names-mapped g [] all = refl
 names-mapped g (x ∷ pushed) all = ap₂ (λ (b : ℕ) (bs : List ℕ). b ∷ bs) all.0 (names-mapped g pushed all.1)
 
 -- a push that no check refuses, at a ring of a port that is found
-module _ (side : Side) (id : ℕ) (s : OwnState) (p : OwnPort) (r : OwnRing) (sound : IsSound s) (once : (b : ℕ) → count_of b (buffers_on s) ≤ 1) (found : port_with_id s id ≡ Some p) (has : ring_on side p ≡ Some r) (passes : refusal_in side s r ≡ None) where
+module _ (side : Side) (id : ℕ) (s : OwnState) (p : OwnPort) (r : OwnRing) (sound : IsSound s) (once : (b : ℕ) → count_of b (buffers_on s) ≤ 1) (found : port_with_id s id ≡ Some p) (has : ring_on side p ≡ Some r) (passes : refusal_in side s p r ≡ None) where
   abbrev pub named : ℕ → Bool
   named b = contains b (named_of s)
 
@@ -82,7 +82,7 @@ module _ (side : Side) (id : ℕ) (s : OwnState) (p : OwnPort) (r : OwnRing) (so
   positions = ring-sound side p r sound-port has
 
   pub fits : FitsRing r.ring r.ring.head r.ring.cur
-  fits = sync-fits side s r passes
+  fits = sync-fits side s p r passes
 
   pub once-held : (b : ℕ) → count_of b r.held ≤ 1
   once-held b = let one = once b in let two = in-ports id s.ports p b found in let three = in-port side p r b has in omega (arith, one, two, three)
@@ -122,10 +122,10 @@ module _ (side : Side) (id : ℕ) (s : OwnState) (p : OwnPort) (r : OwnRing) (so
       (distinct-mapped (buffer_in side r) IsUsers (λ x y first second same. positions-differ side p r x y sound-port has once-held first.0 second.0 first.1 second.1 same) (pushed_slots r.ring r.ring.head) users ats)
 
   names : IsDistinct nat_eq (pushed_names pushed)
-  names = (NamesOnce-from_passes side s.pool (named_of s) [] pushed (sync-passes side s r passes)).distinct
+  names = (NamesOnce-from_passes side (is_whole p) s.pool (named_of s) [] 0 pushed (sync-passes side s p r passes)).distinct
 
   each-name : Each (λ (x : Pushed). named x.slot.buf_idx ≡ true) pushed
-  each-name = each-named (named_of s) pushed (NamesOnce-from_passes side s.pool (named_of s) [] pushed (sync-passes side s r passes)).held
+  each-name = each-named (named_of s) pushed (NamesOnce-from_passes side (is_whole p) s.pool (named_of s) [] 0 pushed (sync-passes side s p r passes)).held
 
   pub trades : Renames named (buffers_on s) traded
   trades = renames named (buffers_on s) once (λ b is. all-named-counted s.ports b sound.each is) (λ (x : ℕ). x) pushed nothing each-was each-name

@@ -41,7 +41,6 @@ use Rattle.vale_own.specs.OwnEntries.{own_after_entry, own_received, received_po
 use Rattle.vale_own.specs.Side.{buffers_on, id_of, is_shut, port_of_side, IsSound, IsSoundSideOf, IsTxCall, IsRxCall, IsFinishCall, IsPutCall, IsOfSide, shut_after}
 use Rattle.vale_own.specs.SideLaws.{SideBegins, SideIsKept}
 use Rattle.vale_own.proofs.Sounds.{Sound, sound-of}
-use Rattle.vale_own.proofs.Buffers.{size-frames}
 use Rattle.vale_own.proofs.Moved.{buffers-moved}
 use Rattle.vale_own.proofs.Newcomers.{rise-below}
 use Rattle.vale_own.proofs.OwnEntry.{own-entries}
@@ -120,7 +119,7 @@ module _ (pool : ℕ) (s : Standing) (shut : Option ℕ) (side : OwnState) (stan
   kept-send : (from : PortId) (frames : List Frame) (port : Port) (reply : Reply) → open_port s.world.ports from.0 ≡ Some port → Kept pool s shut side (Send from frames) port.session reply
   kept-send from frames port reply e k =
       let c : IsTxCall side from.0 (Send from frames) = k.call in
-      let passes = sends-none (refusal_in Tx side c.ring) _ c.port.id from _ _ frames c.is in
+      let passes = sends-none (refusal_in Tx side c.port c.ring) _ c.port.id from _ _ frames c.is in
       let once = once-on port.session [] k.of k.new in
       let own = own_of port.session s in
       kept-by pool port.session shut shut own (own_after_entry s (Send from frames) reply own) side (own_after_send from.0 side) [] [] k.of
@@ -130,7 +129,7 @@ module _ (pool : ℕ) (s : Standing) (shut : Option ℕ) (side : OwnState) (stan
 
   -- a receive sync
   kept-received : (ask : Ask) (at : PortId) (back : List ℕ) (port : Port) (p : OwnPort) (came : List Arrival) → open_port s.world.ports at.0 ≡ Some port
-      → IsSoundSideOf pool port.session shut (own_of port.session s) side → came ≡ given_at s at.0 → port_with_id side at.0 ≡ Some p → refusal_in Rx side p.rx ≡ None → back_in p ≡ back
+      → IsSoundSideOf pool port.session shut (own_of port.session s) side → came ≡ given_at s at.0 → port_with_id side at.0 ≡ Some p → refusal_in Rx side p p.rx ≡ None → back_in p ≡ back
       → ((b : ℕ) → count_of b (option_map_or (own_received s back (own_of port.session s)) (open_port s.world.ports at.0) (own_of port.session s)).buffers + count_of b back ≡ count_of b (own_of port.session s).buffers + count_of b (buffers_of_arrivals came))
       → ((b : ℕ) → count_of b (own_of port.session s).buffers + count_of b (buffers_of_arrivals came) ≤ 1)
       → IsSoundSideOf pool port.session shut (option_map_or (own_received s back (own_of port.session s)) (open_port s.world.ports at.0) (own_of port.session s)) (own_after_receive at.0 came side)
@@ -138,11 +137,9 @@ module _ (pool : ℕ) (s : Standing) (shut : Option ℕ) (side : OwnState) (stan
       let own = own_of port.session s in
       let once = once-on port.session came of new in
       let id-is : port.id ≡ at.0 = open-id at.0 port (place-of (is_open_at at.0) s.world.ports port e).passes in
-      let frames = size-frames (delivered_frames port) in
-      let count : length came ≡ length (delivered_frames port) = ap (λ (all-came : List Arrival). length all-came) is ∙ given-count s at port e stands.numbered stands.held in
+      let given : length came ≡ size_of_frames (delivered_frames port) = ap (λ (all-came : List Arrival). length all-came) is ∙ given-count s at port e stands.numbered stands.held in
       let room : length p.rx.held + length came < p.rx.ring.size = rw is (given-room pool s shut side at port p stands known of e found) in
       let k = received-moved at.0 side p of.sound once found passes came room in
-      let given : length came ≡ size_of_frames (delivered_frames port) = omega (arith, count, frames) in
       kept-by pool port.session shut shut own (option_map_or (own_received s back own) (open_port s.world.ports at.0) own) side (own_after_receive at.0 came side) (back_in p) came of
       (rw e refl)
       (rw e (ap (λ (i : ℕ). changed_at i (received_port (size_of_frames (delivered_frames port)) (length back)) own.ports) id-is
@@ -155,11 +152,11 @@ module _ (pool : ℕ) (s : Standing) (shut : Option ℕ) (side : OwnState) (stan
   kept-receives : (ask : Ask) (at : PortId) (back : List ℕ) (port : Port) → Receives ask at back → open_port s.world.ports at.0 ≡ Some port → Kept pool s shut side ask port.session (sync_step s back port).reply
   kept-receives ask at back port (by_sync at' back') e k =
       let c : IsRxCall side at.0 (Sync at back) = k.call in
-      let parts = syncs-none (refusal_in Rx side c.port.rx) _ c.port.id at (back_in c.port) back c.is in
+      let parts = syncs-none (refusal_in Rx side c.port c.port.rx) _ c.port.id at (back_in c.port) back c.is in
       kept-received ask at back port c.port (given_at s at.0) e k.of refl c.found parts.0 parts.1 k.moved k.new
   kept-receives ask at back port (by_get at' back') e k =
       let c : IsRxCall side at.0 (Get at back) = k.call in
-      let parts = gets-none (refusal_in Rx side c.port.rx) _ c.port.id at (back_in c.port) back c.is in
+      let parts = gets-none (refusal_in Rx side c.port c.port.rx) _ c.port.id at (back_in c.port) back c.is in
       kept-received ask at back port c.port (given_at s at.0) e k.of refl c.found parts.0 parts.1 k.moved k.new
 
   -- a put, of which the other end takes some frames or none
@@ -170,7 +167,7 @@ module _ (pool : ℕ) (s : Standing) (shut : Option ℕ) (side : OwnState) (stan
       → IsSoundSideOf pool port.session shut (own_after_entry s (PutKept at offered) reply (own_of port.session s)) (own_after_put at.0 came side)
   kept-put at offered items port reply came e k is kept gone count there ports =
       let c : IsPutCall side at.0 reply = k.call in
-      let parts = puts-none (refusal_in Tx side c.call.ring) _ c.call.port.id at (offered_items side c.call.ring) c.offered _ c.call.is in
+      let parts = puts-none (refusal_in Tx side c.call.port c.call.ring) _ c.call.port.id at (offered_items side c.call.ring) c.offered _ c.call.is in
       let own = own_of port.session s in
       let new : (b : ℕ) → count_of b own.buffers + count_of b (buffers_of_arrivals came) ≤ 1 = (λ b. rw (← is) (k.new b)) in
       let once = once-on port.session came k.of new in

@@ -1,14 +1,14 @@
 -- The slots that a transmit sync offers: after its exchange each names the buffer in its place, and those
 -- that are not taken stay pushed.
-use Rattle.std.proofs.Common.{ℕ, zero, suc, ◌+◌, ◌-◌, ◌<◌, ◌≤◌, ◌≡◌, ◌==◌, List, [], ◌∷◌, ◌++◌, map, fold, set, drop, length, get_or, Some, None, refl, sym, ◌∙◌, ap, subst, arith}
+use Rattle.std.proofs.Common.{ℕ, zero, suc, ◌+◌, ◌-◌, ◌<◌, ◌≤◌, ◌≡◌, ◌==◌, List, [], ◌∷◌, ◌++◌, map, fold, set, drop, length, get_or, Some, None, refl, sym, ◌∙◌, ap, subst, arith, Bool}
 use Rattle.std.specs.Prelude.{find}
 use Rattle.std.specs.List.{AllByRecursion as Each}
 use Rattle.std.proofs.lemmas.List.{length-set}
 use Rattle.nm_types.specs.declared.id.Side.TheVariants.{Tx}
 use Rattle.nm_types.specs.Positions.{RingState, IsRing, FitsRing, dist, step_on, slots_from, pending_slots, pushed_slots}
 use Rattle.nm_types.specs.Slots.{SlotState, Pushed, slot_after_push}
-use Rattle.nm_types.specs.SyncChecks.{EachPasses}
-use Rattle.nm_types.specs.OwnPorts.{OwnRing, OwnPort, OwnState, blank_slot, buffer_in, slot_in, named_of, port_with_id, pushed_at, pushed_in, refusal_in}
+use Rattle.nm_types.specs.SyncChecks.{begun_after, EachPasses}
+use Rattle.nm_types.specs.OwnPorts.{OwnRing, OwnPort, OwnState, blank_slot, buffer_in, slot_in, named_of, port_with_id, pushed_at, pushed_in, is_whole, refusal_in}
 use Rattle.nm_types.specs.OwnSyncs.{accepted, with_push_cleared, slots_after_push}
 use Rattle.nm_types.proofs.RingSteps.{dist-below, step_on-below, step_on-dist, dist-step_on, dist_behind, step_on-step_on, slots_from-add, drop-slots_from}
 use Rattle.std.proofs.lemmas.Bool.{eqb-true}
@@ -97,12 +97,12 @@ slot-seen see keeps ring slots at =
     sym (see-at see (slots_after_push ring slots) at) ∙ (ap (λ (ns : List ℕ). get_or ns at (see blank_slot)) (seen-pushed see keeps (pushed_slots ring ring.head) slots) ∙ see-at see slots at)
 
 -- lengths of slots that no check refuses
-pub each-short : (pool : ℕ) (named earlier : List ℕ) (xs : List Pushed) → EachPasses Tx pool named earlier xs → Each (λ (x : Pushed). x.slot.len ≤ 2048) xs
-each-short pool named earlier [] passes = tt
-each-short pool named earlier (x ∷ xs) passes = (passes.0.fits_buffer refl, each-short pool named (earlier ++ x.slot.buf_idx ∷ []) xs passes.1)
+pub each-short : (whole : Bool) (pool : ℕ) (named earlier : List ℕ) (begun : ℕ) (xs : List Pushed) → EachPasses Tx whole pool named earlier begun xs → Each (λ (x : Pushed). x.slot.len ≤ 2048) xs
+each-short whole pool named earlier begun [] passes = tt
+each-short whole pool named earlier begun (x ∷ xs) passes = (passes.0.fits_buffer refl, each-short whole pool named (earlier ++ x.slot.buf_idx ∷ []) (begun_after begun x.slot) xs passes.1)
 
 -- the slots offered, once the buffers of a push were exchanged
-module _ (id : ℕ) (s : OwnState) (p : OwnPort) (r : OwnRing) (sound : IsSound s) (once : (b : ℕ) → count_of b (buffers_on s) ≤ 1) (found : port_with_id s id ≡ Some p) (has : p.tx ≡ Some r) (passes : refusal_in Tx s r ≡ None) where
+module _ (id : ℕ) (s : OwnState) (p : OwnPort) (r : OwnRing) (sound : IsSound s) (once : (b : ℕ) → count_of b (buffers_on s) ≤ 1) (found : port_with_id s id ≡ Some p) (has : p.tx ≡ Some r) (passes : refusal_in Tx s p r ≡ None) where
   abbrev pub g : ℕ → ℕ
   g = traded Tx id s p r sound once found has passes
 
@@ -124,7 +124,7 @@ module _ (id : ℕ) (s : OwnState) (p : OwnPort) (r : OwnRing) (sound : IsSound 
   pushed-pending =
       let is = ring-is in
       let held = each-unmap (λ (x : Pushed). g x.was ≡ x.slot.buf_idx) (pushed_at Tx r) (pushed_slots r.ring r.ring.head) (each-holds Tx id s p r sound once found has passes) in
-      let short = each-unmap (λ (x : Pushed). x.slot.len ≤ 2048) (pushed_at Tx r) (pushed_slots r.ring r.ring.head) (each-short s.pool (named_of s) [] (pushed_in Tx r) (sync-passes Tx s r passes)) in
+      let short = each-unmap (λ (x : Pushed). x.slot.len ≤ 2048) (pushed_at Tx r) (pushed_slots r.ring r.ring.head) (each-short (is_whole p) s.pool (named_of s) [] 0 (pushed_in Tx r) (sync-passes Tx s p r passes)) in
       let inside = each-slot (λ (at : ℕ). at < length r.held) r.ring.size r.ring.accepted_head (dist r.ring.size r.ring.accepted_head r.ring.head)
       (λ k below. let here = step_on-below r.ring.size r.ring.accepted_head k is.positions.accepted in let long = is.held in omega (arith, here, long)) in
       over (pushed_slots r.ring r.ring.head) held short inside

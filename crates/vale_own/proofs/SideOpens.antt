@@ -3,6 +3,7 @@ use Rattle.std.proofs.Common.{ℕ, ◌+◌, ◌-◌, ◌<◌, ◌≤◌, ◌≡�
 use Rattle.std.specs.List.{AllByRecursion as Each, IsDistinct, zip}
 use Rattle.std.proofs.lemmas.Bool.{cases_Bool, and_parts, eqb-true, eqb-false, eq-eqb, ne_eqb, leb-true}
 use Rattle.std.proofs.lemmas.List.{length-map, length-set, length-drop, length-take-le, get_or-set_other, map-append}
+use Rattle.nm_types.specs.Limits.{most_extra, most_ring}
 use Rattle.nm_types.specs.declared.fault.OpenFault.{OpenFault}
 use Rattle.nm_types.specs.declared.fault.OpenFault.TheVariants.{BadSize}
 use Rattle.nm_types.specs.Names.{is_monitor_name}
@@ -36,7 +37,7 @@ refusal-none (Some fault) want have e = absurd cc
 refusal-none None want have e = refl
 
 ring-size : (size : ℕ) → is_ring_size size ≡ true → IsRingSize size
-ring-size size e = let parts = and_parts (nat_le 2 size) (nat_le size 1024) e in (leb-true 2 size parts.0, leb-true size 1024 parts.1)
+ring-size size e = let parts = and_parts (nat_le 2 size) (nat_le size most_ring) e in (leb-true 2 size parts.0, leb-true size most_ring parts.1)
 
 pub opened-allowed : (w : World) (name : List ℕ) (tx rx extra : ℕ) → open_refusal w name tx rx extra ≡ None → are_sizes name tx rx extra ≡ true
 opened-allowed w name tx rx extra e = sizes-by (are_sizes name tx rx extra) _ (refusal-none (names_refusal (names_of w.ports) name tx rx extra) (tx + rx + extra) (free_count w) e)
@@ -44,8 +45,8 @@ opened-allowed w name tx rx extra e = sizes-by (are_sizes name tx rx extra) _ (r
 pub opened-sizes : (w : World) (name : List ℕ) (tx rx extra : ℕ) → open_refusal w name tx rx extra ≡ None → Sized tx rx
 opened-sizes w name tx rx extra e =
     let sizes = opened-allowed w name tx rx extra e in
-    let rings = and_parts _ (is_ring_size rx && nat_le extra 1024) sizes in
-    let ring = and_parts (is_ring_size rx) (nat_le extra 1024) rings.1 in
+    let rings = and_parts _ (is_ring_size rx && nat_le extra most_extra) sizes in
+    let ring = and_parts (is_ring_size rx) (nat_le extra most_extra) rings.1 in
     record { tx_size = by (is_monitor_name name) rings.0; rx_size = ring-size rx ring.0 }
   where
     by : (b : Bool) → cond b (tx == 0) (is_ring_size tx) ≡ true → (tx ≡ 0) ⊎ IsRingSize tx

@@ -127,7 +127,7 @@ taken-on-is id n (x ∷ ports) q t found has = elim (cases_Bool (x.id.0 == id)) 
   | inr other ↦ rw other (taken-on-is id n ports q t (rw other at found) has)
 ]
 
-module _ (id : ℕ) (s : OwnState) (p : OwnPort) (r : OwnRing) (sound : IsSound s) (once : (b : ℕ) → count_of b (buffers_on s) ≤ 1) (found : port_with_id s id ≡ Some p) (has : p.tx ≡ Some r) (passes : refusal_in Tx s r ≡ None)
+module _ (id : ℕ) (s : OwnState) (p : OwnPort) (r : OwnRing) (sound : IsSound s) (once : (b : ℕ) → count_of b (buffers_on s) ≤ 1) (found : port_with_id s id ≡ Some p) (has : p.tx ≡ Some r) (passes : refusal_in Tx s p r ≡ None)
     (came : List Arrival) (few : length came ≤ length (offered_slots r)) where
   abbrev to : ℕ → ℕ
   to = traded Tx id s p r sound once found has passes

@@ -43,7 +43,7 @@ front-places r n is within inside = front-from r 0 n is (omega arith) (omega ari
 pub arrivals-length : (came : List Arrival) → length (buffers_of_arrivals came) ≡ length came
 arrivals-length came = length-map came (λ (a : Arrival). a.buffer)
 
-module _ (id : ℕ) (s : OwnState) (p : OwnPort) (sound : IsSound s) (once : (b : ℕ) → count_of b (buffers_on s) ≤ 1) (found : port_with_id s id ≡ Some p) (passes : refusal_in Rx s p.rx ≡ None) (came : List Arrival) (room : length p.rx.held + length came < p.rx.ring.size) where
+module _ (id : ℕ) (s : OwnState) (p : OwnPort) (sound : IsSound s) (once : (b : ℕ) → count_of b (buffers_on s) ≤ 1) (found : port_with_id s id ≡ Some p) (passes : refusal_in Rx s p p.rx ≡ None) (came : List Arrival) (room : length p.rx.held + length came < p.rx.ring.size) where
   abbrev to : ℕ → ℕ
   to = traded Rx id s p p.rx sound once found refl passes
 

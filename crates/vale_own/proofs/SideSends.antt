@@ -42,7 +42,7 @@ pub ring-keeps-id : (side : Side) (f : OwnRing → OwnRing) (q : OwnPort) → (w
 ring-keeps-id Tx f q = refl
 ring-keeps-id Rx f q = refl
 
-module _ (id : ℕ) (s : OwnState) (p : OwnPort) (r : OwnRing) (sound : IsSound s) (once : (b : ℕ) → count_of b (buffers_on s) ≤ 1) (found : port_with_id s id ≡ Some p) (has : p.tx ≡ Some r) (passes : refusal_in Tx s r ≡ None) where
+module _ (id : ℕ) (s : OwnState) (p : OwnPort) (r : OwnRing) (sound : IsSound s) (once : (b : ℕ) → count_of b (buffers_on s) ≤ 1) (found : port_with_id s id ≡ Some p) (has : p.tx ≡ Some r) (passes : refusal_in Tx s p r ≡ None) where
   abbrev to : ℕ → ℕ
   to = traded Tx id s p r sound once found has passes
 

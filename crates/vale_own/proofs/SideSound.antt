@@ -169,7 +169,7 @@ pub record Exchanged (side : Side) (id : ℕ) (s : OwnState) (p : OwnPort) (g : 
   pub ports : (after_exchange side id s).ports ≡ map (port_renamed g) s.ports
   pub found : port_with_id (after_exchange side id s) id ≡ Some (port_renamed g p)
 
-pub exchanged : (side : Side) (id : ℕ) (s : OwnState) (p : OwnPort) (r : OwnRing) (sound : IsSound s) (once : (b : ℕ) → count_of b (buffers_on s) ≤ 1) (found : port_with_id s id ≡ Some p) (has : ring_on side p ≡ Some r) (passes : refusal_in side s r ≡ None)
+pub exchanged : (side : Side) (id : ℕ) (s : OwnState) (p : OwnPort) (r : OwnRing) (sound : IsSound s) (once : (b : ℕ) → count_of b (buffers_on s) ≤ 1) (found : port_with_id s id ≡ Some p) (has : ring_on side p ≡ Some r) (passes : refusal_in side s p r ≡ None)
     → Exchanged side id s p (traded side id s p r sound once found has passes)
 exchanged side id s p r sound once found has passes =
     let g = traded side id s p r sound once found has passes in

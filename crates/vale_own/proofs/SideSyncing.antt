@@ -4,6 +4,8 @@ use Rattle.std.specs.List.{AllByRecursion as Each, list_all}
 use Rattle.std.proofs.lemmas.Bool.{cases_Bool, and_parts, eqb-true}
 use Rattle.std.proofs.lemmas.Bool.Decides.{nat_tests}
 use Rattle.std.proofs.lemmas.List.{length-map}
+use Rattle.nm_types.specs.Limits.{most_batch, most_extra, most_ring}
+use Rattle.nm_types.proofs.Tests.{less_true}
 use Rattle.nm_types.specs.Frames.{size_of_frames}
 use Rattle.nm_types.specs.Sendable.{fits_buffer, is_sendable}
 use Rattle.nm_types.specs.declared.name.Kind.{Kind}
@@ -19,12 +21,12 @@ use Rattle.nm_types.specs.declared.fault.SyncFault.{SyncFault}
 use Rattle.nm_types.specs.SyncFaults.{ring_sync_fault, slot_sync_fault, is_check_fault}
 use Rattle.nm_types.specs.Positions.{dist, pushed_slots}
 use Rattle.nm_types.specs.Slots.{Pushed, frame_at, pushed_frames}
-use Rattle.nm_types.specs.SyncChecks.{ring_refusal, slot_refusal, slots_refusal, first_refusal, seen_of}
-use Rattle.nm_types.specs.OwnPorts.{OwnRing, OwnPort, OwnState, Arrival, bytes_at, named_of, slot_in, port_with_id, pushed_at, pushed_in, refusal_in}
+use Rattle.nm_types.specs.SyncChecks.{ring_refusal, slot_refusal, slots_refusal, first_refusal, seen_of, begun_after}
+use Rattle.nm_types.specs.OwnPorts.{OwnRing, OwnPort, OwnState, Arrival, bytes_at, named_of, slot_in, port_with_id, pushed_at, pushed_in, is_whole, refusal_in}
 use Rattle.nm_types.specs.OwnSyncs.{offered_slots, own_after_receive, own_after_put}
 use Rattle.nm_types.proofs.RingSteps.{dist-below, length-slots_from}
-use Rattle.nm_types.proofs.Sizes.{size_of_frames-length}
-use Rattle.nm_types.proofs.Tests.{less_true}
+use Rattle.nm_types.proofs.Sizes.{length-size}
+use Rattle.nm_types.proofs.JoinedFrames.{passed-sent}
 use Rattle.vale_entry.specs.declared.entry.Ask.TheVariants.{Send, Sync, Put, Get}
 use Rattle.vale_entry.specs.declared.entry.Entry.{Entry}
 use Rattle.vale_entry.specs.declared.entry.Item.{Item}
@@ -83,16 +85,16 @@ first-check : (first later : Option SyncFault) (fault : SyncFault) → (first �
 first-check None later fault one two e = two e
 first-check (Some f) later fault one two e = one e
 
-slots-check : (side : Side) (pool : ℕ) (named earlier : List ℕ) (pushed : List Pushed) (fault : SyncFault) → slots_refusal side pool named earlier pushed ≡ Some fault → is_check_fault fault ≡ true
-slots-check side pool named earlier [] fault e = absurd cc
-slots-check side pool named earlier (x ∷ pushed) fault e =
-    first-check (option_map slot_sync_fault (slot_refusal side (seen_of pool named earlier x) x.at x.slot)) (slots_refusal side pool named (earlier ++ x.slot.buf_idx ∷ []) pushed) fault
-    (λ first. slot-check (slot_refusal side (seen_of pool named earlier x) x.at x.slot) fault first) (λ later. slots-check side pool named (earlier ++ x.slot.buf_idx ∷ []) pushed fault later) e
+slots-check : (side : Side) (whole : Bool) (pool : ℕ) (named earlier : List ℕ) (begun : ℕ) (pushed : List Pushed) (fault : SyncFault) → slots_refusal side whole pool named earlier begun pushed ≡ Some fault → is_check_fault fault ≡ true
+slots-check side whole pool named earlier begun [] fault e = absurd cc
+slots-check side whole pool named earlier begun (x ∷ pushed) fault e =
+    first-check (option_map slot_sync_fault (slot_refusal side (seen_of whole pool named earlier begun pushed x) x.at x.slot)) (slots_refusal side whole pool named (earlier ++ x.slot.buf_idx ∷ []) (begun_after begun x.slot) pushed) fault
+    (λ first. slot-check (slot_refusal side (seen_of whole pool named earlier begun pushed x) x.at x.slot) fault first) (λ later. slots-check side whole pool named (earlier ++ x.slot.buf_idx ∷ []) (begun_after begun x.slot) pushed fault later) e
 
-sync-check : (side : Side) (s : OwnState) (r : OwnRing) (fault : SyncFault) → refusal_in side s r ≡ Some fault → is_check_fault fault ≡ true
-sync-check side s r fault e =
-    first-check (option_map ring_sync_fault (ring_refusal r.ring r.ring.head r.ring.cur)) (slots_refusal side s.pool (named_of s) [] (pushed_in side r)) fault
-    (λ first. ring-check (ring_refusal r.ring r.ring.head r.ring.cur) fault first) (λ later. slots-check side s.pool (named_of s) [] (pushed_in side r) fault later) e
+sync-check : (side : Side) (s : OwnState) (p : OwnPort) (r : OwnRing) (fault : SyncFault) → refusal_in side s p r ≡ Some fault → is_check_fault fault ≡ true
+sync-check side s p r fault e =
+    first-check (option_map ring_sync_fault (ring_refusal r.ring r.ring.head r.ring.cur)) (slots_refusal side (is_whole p) s.pool (named_of s) [] 0 (pushed_in side r)) fault
+    (λ first. ring-check (ring_refusal r.ring r.ring.head r.ring.cur) fault first) (λ later. slots-check side (is_whole p) s.pool (named_of s) [] 0 (pushed_in side r) fault later) e
 
 fault-fits : (o : Option SyncFault) (fault : SyncFault) → RefusalFits o → o ≡ Some fault → fits_fault fault ≡ true
 fault-fits None fault fits e = absurd cc
@@ -114,7 +116,7 @@ module _ (pool : ℕ) (past : List Entry) (session : ℕ) (shut : Option ℕ) (s
   port = port_of_side session shut p
 
   -- a receive sync
-  received : (pipe : Bool) → is_pipe_name p.name ≡ pipe → refusal_in Rx side p.rx ≡ None → may_ask session own (cond pipe (Get p.id (back_in p)) (Sync p.id (back_in p))) ≡ true
+  received : (pipe : Bool) → is_pipe_name p.name ≡ pipe → refusal_in Rx side p p.rx ≡ None → may_ask session own (cond pipe (Get p.id (back_in p)) (Sync p.id (back_in p))) ≡ true
   received pipe name passes = by pipe name
     where
       sound-p : IsSoundPort p
@@ -145,14 +147,14 @@ module _ (pool : ℕ) (past : List Entry) (session : ℕ) (shut : Option ℕ) (s
           let kind = switch-or-monitor p.name (port-sized pool past session shut side k p found).0 is in
           rw (open-is, kind, settled, few, held) refl
 
-  pub asked-rx : RefusalFits (refusal_in Rx side p.rx) → may_ask session own (rx_call side p) ≡ true
-  asked-rx fits = by (refusal_in Rx side p.rx) refl
+  pub asked-rx : RefusalFits (refusal_in Rx side p p.rx) → may_ask session own (rx_call side p) ≡ true
+  asked-rx fits = by (refusal_in Rx side p p.rx) refl
     where
-      by : (o : Option SyncFault) → refusal_in Rx side p.rx ≡ o → may_ask session own (or_reset o p.id Rx (cond (is_pipe_name p.name) (Get p.id (back_in p)) (Sync p.id (back_in p)))) ≡ true
+      by : (o : Option SyncFault) → refusal_in Rx side p p.rx ≡ o → may_ask session own (or_reset o p.id Rx (cond (is_pipe_name p.name) (Get p.id (back_in p)) (Sync p.id (back_in p)))) ≡ true
       by None passes = received (is_pipe_name p.name) refl passes
       by (Some fault) refused =
-          let check = sync-check Rx side p.rx fault refused in
-          let numbers = fault-fits (refusal_in Rx side p.rx) fault fits refused in
+          let check = sync-check Rx side p p.rx fault refused in
+          let numbers = fault-fits (refusal_in Rx side p p.rx) fault fits refused in
           rw (own-open pool past session shut side k p found stays, check, numbers) refl
 
   -- a transmit sync
@@ -160,13 +162,13 @@ module _ (pool : ℕ) (past : List Entry) (session : ℕ) (shut : Option ℕ) (s
     size-is : size_if p.tx ≡ r.ring.size
     size-is = ap size_if has
 
-    sizes : (2 ≤ r.ring.size) × (r.ring.size ≤ 1024)
+    sizes : (2 ≤ r.ring.size) × (r.ring.size ≤ most_ring)
     sizes = let is = (tx-sound p r (port-sound pool past session shut side k p found) has).positions in (is.is_size.0, is.is_size.1)
 
     -- so it is no monitor's
     not-monitor : is_monitor_name p.name ≡ false
     not-monitor = elim (cases_Bool (is_monitor_name p.name)) [
-      | inl monitor ↦ absurd (let first = (and_parts _ (is_ring_size p.rx.ring.size && nat_le (length p.extra) 1024) (port-sized pool past session shut side k p found).1).0 in
+      | inl monitor ↦ absurd (let first = (and_parts _ (is_ring_size p.rx.ring.size && nat_le (length p.extra) most_extra) (port-sized pool past session shut side k p found).1).0 in
           let none : size_if p.tx ≡ 0 = eqb-true (size_if p.tx) 0 (rw monitor at first) in
           let long = sizes.0 in let same = size-is in omega (arith, none, long, same))
       | inr other ↦ other
@@ -179,8 +181,8 @@ module _ (pool : ℕ) (past : List Entry) (session : ℕ) (shut : Option ℕ) (s
         by true e = refl
         by false e = absurd cc
 
-    module _ (passes : refusal_in Tx side r ≡ None) where
-      pushed-few : length (pushed_slots r.ring r.ring.head) ≤ 1023
+    module _ (passes : refusal_in Tx side p r ≡ None) where
+      pushed-few : length (pushed_slots r.ring r.ring.head) ≤ most_batch
       pushed-few =
           let is = (tx-sound p r (port-sound pool past session shut side k p found) has).positions in
           let below = dist-below r.ring.size r.ring.accepted_head r.ring.head is.accepted in
@@ -188,26 +190,17 @@ module _ (pool : ℕ) (past : List Entry) (session : ℕ) (shut : Option ℕ) (s
           let most = sizes.1 in
           omega (arith, below, count, most)
 
-      frames-fit : list_all fits_buffer (pushed_frames (bytes_at side) (pushed_in Tx r)) ≡ true
-      frames-fit = over (pushed_in Tx r) (each-short side.pool (named_of side) [] (pushed_in Tx r) (sync-passes Tx side r passes))
-        where
-          over : (xs : List Pushed) → Each (λ (x : Pushed). x.slot.len ≤ 2048) xs → list_all fits_buffer (pushed_frames (bytes_at side) xs) ≡ true
-          over [] all = refl
-          over (x ∷ xs) all =
-              let here : fits_buffer (frame_at (bytes_at side) x.slot) ≡ true = (let short = taken-short x.slot.len (bytes_at side x.slot.buf_idx) in let len = all.0 in below-true (length (take x.slot.len (bytes_at side x.slot.buf_idx))) 2048 (omega (arith, short, len))) in
-              let rest = over xs all.1 in
-              rw (here, rest) refl
-
       sendable : is_sendable (pushed_frames (bytes_at side) (pushed_in Tx r)) ≡ true
       sendable =
           let frames = pushed_frames (bytes_at side) (pushed_in Tx r) in
-          let one = length-map (pushed_in Tx r) (λ (x : Pushed). frame_at (bytes_at side) x.slot) in
+          let sent = passed-sent (bytes_at side) (is_whole p) side.pool (named_of side) (pushed_in Tx r) (sync-passes Tx side p r passes) in
+          let within = sent.within in
           let two = length-map (pushed_slots r.ring r.ring.head) (pushed_at Tx r) in
-          let size = size_of_frames-length frames in
+          let least = length-size frames in
           let few = pushed-few in
-          let count = below-true (length frames) 1023 (omega (arith, one, two, few)) in
-          let slots = below-true (size_of_frames frames) 1023 (omega (arith, one, two, size, few)) in
-          rw (count, slots, frames-fit) refl
+          let count = below-true (length frames) most_batch (omega (arith, within, two, few, least)) in
+          let slots = below-true (size_of_frames frames) most_batch (omega (arith, within, two, few)) in
+          rw (count, slots, sent.fit) refl
 
       -- all that a put offers
       abbrev offered : List Item
@@ -253,14 +246,14 @@ module _ (pool : ℕ) (past : List Entry) (session : ℕ) (shut : Option ℕ) (s
               let rest = over ats all.1 in
               rw (here, rest) refl
 
-      offered-few : nat_le (length offered) 1023 ≡ true
+      offered-few : nat_le (length offered) most_batch ≡ true
       offered-few =
           let is = (tx-sound p r (port-sound pool past session shut side k p found) has).positions in
           let count = offered-count p.id.0 side p r k.of.sound (once-side pool past session shut side k) found has passes came (let same = came-length in omega (arith, same)) in
-          let few = total-few r.ring is (sync-fits Tx side r passes) in
+          let few = total-few r.ring is (sync-fits Tx side p r passes) in
           let same = offered-length in
           let most = sizes.1 in
-          below-true (length offered) 1023 (omega (arith, count, few, same, most))
+          below-true (length offered) most_batch (omega (arith, count, few, same, most))
 
       sent : may_ask session own (cond (is_pipe_name p.name) (Put p.id offered) (Send p.id (pushed_frames (bytes_at side) (pushed_in Tx r)))) ≡ true
       sent = by (is_pipe_name p.name) refl
@@ -269,14 +262,14 @@ module _ (pool : ℕ) (past : List Entry) (session : ℕ) (shut : Option ℕ) (s
           by true is = rw (own-open pool past session shut side k p found stays, is, settled, offered-fit, offered-held, offered-few) refl
           by false is = rw (own-open pool past session shut side k p found stays, is-switch is, settled, sendable) refl
 
-    asked-tx : RefusalFits (refusal_in Tx side r) → may_ask session own (tx_call side p r) ≡ true
-    asked-tx fits = by (refusal_in Tx side r) refl
+    asked-tx : RefusalFits (refusal_in Tx side p r) → may_ask session own (tx_call side p r) ≡ true
+    asked-tx fits = by (refusal_in Tx side p r) refl
       where
-        by : (o : Option SyncFault) → refusal_in Tx side r ≡ o → may_ask session own (or_reset o p.id Tx (cond (is_pipe_name p.name) (Put p.id (offered_items side r)) (Send p.id (pushed_frames (bytes_at side) (pushed_in Tx r))))) ≡ true
+        by : (o : Option SyncFault) → refusal_in Tx side p r ≡ o → may_ask session own (or_reset o p.id Tx (cond (is_pipe_name p.name) (Put p.id (offered_items side r)) (Send p.id (pushed_frames (bytes_at side) (pushed_in Tx r))))) ≡ true
         by None passes = sent passes
         by (Some fault) refused =
-            let check = sync-check Tx side r fault refused in
-            let numbers = fault-fits (refusal_in Tx side r) fault fits refused in
+            let check = sync-check Tx side p r fault refused in
+            let numbers = fault-fits (refusal_in Tx side p r) fault fits refused in
             let ring : nat_lt 0 (size_if p.tx) ≡ true = (let same = size-is in let long = sizes.0 in less_true 0 (size_if p.tx) (omega (arith, same, long))) in
             rw (own-open pool past session shut side k p found stays, ring, check, numbers) refl
 

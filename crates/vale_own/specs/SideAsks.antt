@@ -56,17 +56,17 @@ pub record HasFields (r : OwnRing) : Type 0 where
 
 abbrev pub RefusalsFit : Type 0
 RefusalsFit = (pool : ℕ) (past : List Entry) (session : ℕ) (shut : Option ℕ) (side : OwnState) (sd : Side) (p : OwnPort) (r : OwnRing) → HasSide pool past session shut side → IsPoolSize pool
-    → port_with_id side p.id.0 ≡ Some p → ring_on sd p ≡ Some r → HasFields r → RefusalFits (refusal_in sd side r)
+    → port_with_id side p.id.0 ≡ Some p → ring_on sd p ≡ Some r → HasFields r → RefusalFits (refusal_in sd side p r)
 
 -- a transmit sync: the frames pushed, or those offered to a pipe, can be sent; a refused one resets
 abbrev pub TransmitMayBeAsked : Type 0
 TransmitMayBeAsked = (pool : ℕ) (past : List Entry) (session : ℕ) (shut : Option ℕ) (side : OwnState) (p : OwnPort) (r : OwnRing) → HasSide pool past session shut side → IsSettled pool past session
-    → IsOpen shut side p → p.tx ≡ Some r → RefusalFits (refusal_in Tx side r) → MayAsk pool past session (tx_call side p r)
+    → IsOpen shut side p → p.tx ≡ Some r → RefusalFits (refusal_in Tx side p r) → MayAsk pool past session (tx_call side p r)
 
 -- a receive sync: the buffers that it gives back are the session's; a refused one resets
 abbrev pub ReceiveMayBeAsked : Type 0
 ReceiveMayBeAsked = (pool : ℕ) (past : List Entry) (session : ℕ) (shut : Option ℕ) (side : OwnState) (p : OwnPort) → HasSide pool past session shut side → IsSettled pool past session
-    → IsOpen shut side p → RefusalFits (refusal_in Rx side p.rx) → MayAsk pool past session (rx_call side p)
+    → IsOpen shut side p → RefusalFits (refusal_in Rx side p p.rx) → MayAsk pool past session (rx_call side p)
 
 abbrev pub ShutMayBeAsked : Type 0
 ShutMayBeAsked = (pool : ℕ) (past : List Entry) (session : ℕ) (shut : Option ℕ) (side : OwnState) (p : OwnPort) → HasSide pool past session shut side → IsSettled pool past session

@@ -4,11 +4,12 @@ use Rattle.std.proofs.lemmas.List.{length-map}
 use Rattle.std.specs.List.{AllByRecursion as Each, list_any, list_all}
 use Rattle.std.proofs.lemmas.List.Elements.{All-from_recursion}
 use Rattle.std.proofs.lemmas.Bool.{leb-true, and_parts, and_left, and_right, eqb-true}
+use Rattle.nm_types.specs.Limits.{most_batch, most_frame_bytes}
 use Rattle.nm_types.specs.Frames.{Frame, slots_of, size_of_frames}
 use Rattle.nm_types.specs.Sides.{watches_side}
 use Rattle.nm_types.specs.declared.id.Side.TheVariants.{Tx, Rx}
 use Rattle.nm_types.specs.Names.{switch_of, kind_of, is_switch_port_name, is_monitor_name, is_switch_port_kind, is_monitor_kind}
-use Rattle.nm_types.specs.Sendable.{is_sendable, fits_buffer}
+use Rattle.nm_types.specs.Sendable.{is_sendable, is_frame}
 use Rattle.nm_types.specs.declared.name.Kind.{Kind}
 use Rattle.nm_types.specs.declared.name.Kind.TheVariants.{Vale}
 use Rattle.nm_types.specs.declared.id.PortId.{PortId}
@@ -212,8 +213,8 @@ sending pool h from frames port entries is =
     let place = open-place w.ports w.entry_count from.0 port rise is.here in
     let can = and_parts (is_switch_port_name port.name) (is_settled w port.session && is_sendable frames) is.can in
     let sendable = (and_parts (is_settled w port.session) (is_sendable frames) can.1).1 in
-    let most = and_parts (nat_le (length frames) 1023) (nat_le (size_of_frames frames) 1023 && list_all fits_buffer frames) sendable in
-    let fits = (and_parts (nat_le (size_of_frames frames) 1023) (list_all fits_buffer frames) most.1).1 in
+    let most = and_parts (nat_le (length frames) most_batch) (nat_le (size_of_frames frames) most_batch && list_all is_frame frames) sendable in
+    let fits = (and_parts (nat_le (size_of_frames frames) most_batch) (list_all is_frame frames) most.1).1 in
     let up : is_open w.ports port.id ≡ true = ap (is_open w.ports) place.id_is ∙ ap (λ (found : Option Port). is_some found) is.here in
     record {
       looked = batch_named port w.ports w.pairs entries frames fits is.size up is.finds;
@@ -307,18 +308,18 @@ open_ports_rise pool h switch =
 
 -- ---- what may be sent can be looked up
 
-each_frame : (frames : List Frame) → list_all fits_buffer frames ≡ true → Each IsFrame frames
+each_frame : (frames : List Frame) → list_all is_frame frames ≡ true → Each IsFrame frames
 each_frame [] fits = tt
 each_frame (f ∷ fs) fits =
-    let parts = and_parts (fits_buffer f) (list_all fits_buffer fs) fits in
-    let few = leb-true (length f.bytes) 2048 parts.0 in
+    let parts = and_parts (is_frame f) (list_all is_frame fs) fits in
+    let few = leb-true (length f.bytes) most_frame_bytes parts.0 in
     (omega (arith, few), each_frame fs parts.1)
 
 pub looked_up_sendable : SendableCanBeLookedUp
 looked_up_sendable frames sendable =
-    let most = and_parts (nat_le (length frames) 1023) (nat_le (size_of_frames frames) 1023 && list_all fits_buffer frames) sendable in
-    let fits = (and_parts (nat_le (size_of_frames frames) 1023) (list_all fits_buffer frames) most.1).1 in
-    record { few = leb-true (length frames) 1023 most.0; each = All-from_recursion IsFrame frames (each_frame frames fits) }
+    let most = and_parts (nat_le (length frames) most_batch) (nat_le (size_of_frames frames) most_batch && list_all is_frame frames) sendable in
+    let fits = (and_parts (nat_le (size_of_frames frames) most_batch) (list_all is_frame frames) most.1).1 in
+    record { few = leb-true (length frames) most_batch most.0; each = All-from_recursion IsFrame frames (each_frame frames fits) }
 
 -- ---- replies
 

@@ -65,10 +65,6 @@ adds at more (t ∷ ts) =
     (add_one at more t (t.port.0 == at) ∙ ap (λ (b : Bool). counted_with (counted_as t) (counts_if b more)) (eqb-turned at t.port.0))
     ∙ ap (λ (cs : List PortCounts). more_at at more (counted_as t) ∷ cs) (adds at more ts)
 
-nothing_if : (b : Bool) → counts_if b zero_counts ≡ zero_counts
-nothing_if true = refl
-nothing_if false = refl
-
 -- ---- an entry
 
 module _ (w : World) (tally : List Tallied) (are : CountsAre w tally) where

@@ -6,7 +6,7 @@ use Rattle.std.proofs.lemmas.Bool.{and_parts, eqb-true}
 use Rattle.std.proofs.lemmas.List.Sums.{sum_by-cons}
 use Rattle.nm_types.specs.Frames.{Frame}
 use Rattle.nm_types.specs.Names.{switch_of, is_switch_port_name}
-use Rattle.nm_types.specs.Sendable.{fits_buffer}
+use Rattle.nm_types.specs.Sendable.{is_frame}
 use Rattle.nm_types.specs.declared.id.PortId.{PortId}
 use Rattle.nm_types.proofs.Tests.{or_none}
 use Rattle.vale_learn.specs.AddressTable.{Entries}
@@ -30,16 +30,9 @@ use Rattle.vale_parts.specs.Ids.{id_of, port_id, id_of_port}
 use Rattle.vale_parts.specs.SwitchPorts.{is_open_on, open_ports_on}
 use Rattle.vale_parts.specs.Tables.{FindsPairs}
 use Rattle.vale_parts.specs.Batches.{named_as, IsLookedAs, AreLookedAs}
-use Rattle.vale_parts.specs.BatchLaws.{SlotsAreOne}
 use Rattle.vale_parts.proofs.SwitchPairs.{PortFound, found-port}
 use Rattle.vale_parts.proofs.TableFinds.{IsTable, frame-finds, frame-size}
 use Rattle.vale_parts.proofs.PairsKept.{learned-paired}
-
-pub slots_are_one : SlotsAreOne
-slots_are_one frame fits = ap (λ (b : Bool). cond b 1 (slots_long frame)) fits
-  where
-    slots_long : Frame → ℕ
-    slots_long frame = div_ceil (length frame.bytes) 2048
 
 -- ---- one frame
 
@@ -74,20 +67,20 @@ module _ (sender : Port) where
   short_by false true found = refl
   short_by false false found = short_found found
 
-  frame_named : (ports : List Port) (pairs : List Pair) (entries : Entries) (frame : Frame) → fits_buffer frame ≡ true → FindsPairs ports pairs (switch_of sender.name) entries
+  frame_named : (ports : List Port) (pairs : List Pair) (entries : Entries) (frame : Frame) → is_frame frame ≡ true → FindsPairs ports pairs (switch_of sender.name) entries
       → IsLookedAs (looked_up (port_id sender.id) entries frame) (record { frame = frame; destination = destination_of ports sender pairs frame })
   frame_named ports pairs entries frame fits finds = record {
     destination = same_by (is_short frame) (is_group (destination_address frame)) (table_port entries (destination_address frame)) (port_of_address ports pairs (switch_of sender.name) (destination_address frame)) (finds (destination_address frame));
     short = short_by (is_short frame) (is_group (destination_address frame)) (table_port entries (destination_address frame));
-    size = slots_are_one frame fits;
+    size = refl;
   }
 
   -- ---- a batch
-  pub batch_named : (ports : List Port) (pairs : List Pair) (entries : Entries) (frames : List Frame) → list_all fits_buffer frames ≡ true → IsTable entries → is_open ports sender.id ≡ true
+  pub batch_named : (ports : List Port) (pairs : List Pair) (entries : Entries) (frames : List Frame) → list_all is_frame frames ≡ true → IsTable entries → is_open ports sender.id ≡ true
       → FindsPairs ports pairs (switch_of sender.name) entries → AreLookedAs (looked_up_batch (port_id sender.id) entries frames) (named_frames ports sender pairs frames)
   batch_named ports pairs entries [] fits size up finds = tt
   batch_named ports pairs entries (frame ∷ frames) fits size up finds =
-      let parts = and_parts (fits_buffer frame) (list_all fits_buffer frames) fits in
+      let parts = and_parts (is_frame frame) (list_all is_frame frames) fits in
       let taught = frame-finds ports sender pairs entries frame size up finds in (
         frame_named ports (learned sender pairs frame) (learned_from (port_id sender.id) entries frame) frame parts.0 taught,
         batch_named ports (learned sender pairs frame) (learned_from (port_id sender.id) entries frame) frames parts.1 (frame-size (port_id sender.id) entries frame size) up taught,

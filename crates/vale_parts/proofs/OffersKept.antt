@@ -23,7 +23,7 @@ use Rattle.vale_entry.proofs.Each.{each-without_first}
 use Rattle.vale_entry.proofs.Worlds.{standing-push}
 use Rattle.vale_entry.proofs.Numbered.{Numbered, world-numbered}
 use Rattle.vale_entry.proofs.Follows.{EachKind, Left, IsQuiet, refused_open, resets, finds_no_peer, finds_no_target, finds_watched, counts, Receives, by_sync, by_get, follows-by}
-use Rattle.vale_parts.specs.Batches.{IsOfferOf, AreOffersOf, wants_monitored}
+use Rattle.vale_parts.specs.Batches.{AreOffersOf, wants_monitored}
 use Rattle.vale_parts.specs.Offering.{OffersAre, IsNext, offers_at, offers_started, wants_after}
 use Rattle.vale_parts.specs.OfferLaws.{OffersFollow, FirstWantsAreNext, NoWantIsLeft, OffersStart, SendsStart, ReadsStart, PutsStart, ReadsAt, syncs, gets}
 use Rattle.vale_parts.specs.BatchLaws.{wants_at}
@@ -221,9 +221,6 @@ offers_start pool h e follows =
     ap (λ (t : Standing). offers_at t.world (s.world.entry_count + 1)) (standing-push pool h e) ∙ started s (world-numbered pool h) e follows
 
 -- ---- the first of an entry's
-
-head_by : (frames : List Frame) (want : Wanted) (wants : List Wanted) (offer : Offer) (offers rest : List Offer) → offers ≡ offer ∷ rest → AreOffersOf frames (want ∷ wants) offers → IsOfferOf frames want offer
-head_by frames want wants offer offers rest e all = (subst (AreOffersOf frames (want ∷ wants)) e all).0
 
 found_first : (test : Offer → Bool) (offers : List Offer) (first : Offer) (rest : List Offer) → filter test offers ≡ first ∷ rest → find test offers ≡ Some first
 found_first test [] first rest e = absurd cc

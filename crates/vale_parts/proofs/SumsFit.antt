@@ -1,12 +1,14 @@
--- No sum of counters passes 2^64 - 1: an entry counts at most 65536 frames of a kind at a port.
+-- No sum of counters passes 2^64 - 1: an entry counts at most as many frames of a kind at a port as a pool has buffers.
 use Rattle.std.proofs.Common.{ℕ, Bool, true, false, cond, not, min, ◌≡◌, ◌≤◌, ◌<◌, ◌+◌, ◌-◌, ◌*◌, List, [], ◌∷◌, ◌++◌, length, map, filter, count_by, Option, Some, None, refl, sym, ◌∙◌, ap, subst, arith, ◌==◌, ◌&&◌, nat_le}
 use Rattle.std.specs.List.{AllByRecursion as Each, list_all, cons_option}
 use Rattle.std.proofs.lemmas.Bool.{and_parts, leb-true}
 use Rattle.std.proofs.lemmas.List.{length-map}
 use Rattle.std.proofs.lemmas.List.Sums.{length-filter}
+use Rattle.nm_types.specs.Limits.{most_batch, most_pool}
 use Rattle.nm_types.specs.Frames.{Frame, slots_of, size_of_frames}
 use Rattle.nm_types.specs.Names.{is_switch_port_name}
-use Rattle.nm_types.specs.Sendable.{is_sendable, fits_buffer}
+use Rattle.nm_types.proofs.Sizes.{length-size}
+use Rattle.nm_types.specs.Sendable.{is_sendable, is_frame}
 use Rattle.nm_types.specs.declared.id.PortId.{PortId}
 use Rattle.nm_types.specs.declared.id.Counts.{Counts}
 use Rattle.nm_types.specs.Counters.{zero_counts, sum_of_counts, SumFits}
@@ -36,7 +38,6 @@ use Rattle.vale_entry.proofs.Roomy.{HasRoom, Roomy, delivered-size}
 use Rattle.vale_entry.proofs.Told.{history-by}
 use Rattle.vale_entry.proofs.HistoryLaws.{history-stands}
 use Rattle.vale_entry.proofs.Follows.{EachKind, Left, entry_made, CanKeep, IsQuiet, refused_open, resets, finds_no_peer, finds_no_target, finds_watched, counts, Receives, by_sync, by_get, follows-by}
-use Rattle.vale_entry.proofs.Slots.{frames-few}
 use Rattle.vale_parts.specs.CountLaws.{FitsAt, SumsFit}
 
 -- ---- bounds
@@ -94,34 +95,34 @@ length_fitting room (f ∷ fs) = by_test (nat_le (slots_of f) room) (length_fitt
 -- ---- offers
 
 abbrev IsFew : Offer → Type 0
-IsFew offer = length offer.frames ≤ 65536
+IsFew offer = length offer.frames ≤ most_pool
 
-few_by : (origin session to : ℕ) (frames : List Frame) (offers : List Offer) → length frames ≤ 65536 → Each IsFew offers → Each IsFew (cons_option (offer_to origin session to frames) offers)
+few_by : (origin session to : ℕ) (frames : List Frame) (offers : List Offer) → length frames ≤ most_pool → Each IsFew offers → Each IsFew (cons_option (offer_to origin session to frames) offers)
 few_by origin session to [] offers few all = all
 few_by origin session to (f ∷ fs) offers few all = (few, all)
 
-offers_few : (origin session : ℕ) (wanted : Port → List Frame) → ((port : Port) → length (wanted port) ≤ 65536) → (ports : List Port) → Each IsFew (offers_of origin session wanted ports)
+offers_few : (origin session : ℕ) (wanted : Port → List Frame) → ((port : Port) → length (wanted port) ≤ most_pool) → (ports : List Port) → Each IsFew (offers_of origin session wanted ports)
 offers_few origin session wanted few [] = tt
 offers_few origin session wanted few (p ∷ ps) = few_by origin session p.id (wanted p) (offers_of origin session wanted ps) (few p) (offers_few origin session wanted few ps)
 
-monitored_few : (monitor : Option ℕ) (frames : List Frame) → length frames ≤ 65536 → (port : Port) → length (monitored_frames monitor frames port) ≤ 65536
+monitored_few : (monitor : Option ℕ) (frames : List Frame) → length frames ≤ most_pool → (port : Port) → length (monitored_frames monitor frames port) ≤ most_pool
 monitored_few monitor frames few port = by_test (is_monitor monitor port)
   where
-    by_test : (b : Bool) → length (wanted_if b frames) ≤ 65536
+    by_test : (b : Bool) → length (wanted_if b frames) ≤ most_pool
     by_test true = few
     by_test false = omega arith
 
 -- ---- an entry
 
-module _ (s : Standing) (n : Numbered s) (room : Roomy s) (low : s.world.pool ≤ 65536) (few : Each IsFew s.world.offers) (within : Each (λ (c : PortCounts). IsWithin (65536 * s.world.entry_count) c.counts) s.world.counts) where
+module _ (s : Standing) (n : Numbered s) (room : Roomy s) (low : s.world.pool ≤ most_pool) (few : Each IsFew s.world.offers) (within : Each (λ (c : PortCounts). IsWithin (most_pool * s.world.entry_count) c.counts) s.world.counts) where
   abbrev w : World
   w = s.world
 
   abbrev IsLow : PortCounts → Type 0
-  IsLow counted = IsWithin (65536 * (w.entry_count + 1)) counted.counts
+  IsLow counted = IsWithin (most_pool * (w.entry_count + 1)) counted.counts
 
   abbrev IsLittle : Entry → Type 0
-  IsLittle e = (port : ℕ) → IsWithin 65536 (counted_in port w e)
+  IsLittle e = (port : ℕ) → IsWithin most_pool (counted_in port w e)
 
   record Bounded (e : Entry) (left : Standing) : Type 0 where
     little : IsLittle e
@@ -130,44 +131,44 @@ module _ (s : Standing) (n : Numbered s) (room : Roomy s) (low : s.world.pool �
 
   lows : (e : Entry) → IsLittle e → Each IsLow (map (with_counted w e) w.counts)
   lows e little =
-      each-map (λ (c : PortCounts). IsWithin (65536 * w.entry_count) c.counts) IsLow (with_counted w e)
-      (λ c here. let sum : 65536 * w.entry_count + 65536 ≡ 65536 * (w.entry_count + 1) = omega arith in
-      subst (λ (m : ℕ). IsWithin m (with_counted w e c).counts) sum (within_sum (65536 * w.entry_count) 65536 c.counts (counted_in c.port w e) here (little c.port))) w.counts within
+      each-map (λ (c : PortCounts). IsWithin (most_pool * w.entry_count) c.counts) IsLow (with_counted w e)
+      (λ c here. let sum : most_pool * w.entry_count + most_pool ≡ most_pool * (w.entry_count + 1) = omega arith in
+      subst (λ (m : ℕ). IsWithin m (with_counted w e c).counts) sum (within_sum (most_pool * w.entry_count) most_pool c.counts (counted_in c.port w e) here (little c.port))) w.counts within
 
   nothing : (e : Entry) → ((port : ℕ) → counted_in port w e ≡ zero_counts) → IsLittle e
-  nothing e none port = subst (IsWithin 65536) (sym (none port)) (within_zero 65536)
+  nothing e none port = subst (IsWithin most_pool) (sym (none port)) (within_zero most_pool)
 
   -- frames that a sync gives lie in the port's ring
-  delivered_few : (id : ℕ) (port : Port) → open_port w.ports id ≡ Some port → length (delivered_frames port) ≤ 65536
+  delivered_few : (id : ℕ) (port : Port) → open_port w.ports id ≡ Some port → length (delivered_frames port) ≤ most_pool
   delivered_few id port e =
       let place = open-place w.ports w.entry_count id port n.ports_rise e in
       let roomy = (each-at HasRoom w.ports place.place port room.roomy place.here).fits in
       let own = sum-at buffers_of w.ports place.place port place.here in
       let all = room.within in
       let sizes = delivered-size port in
-      let slots = frames-few (delivered_frames port) in
+      let slots = length-size (delivered_frames port) in
       omega (arith, roomy, own, all, sizes, slots, low)
 
-  sent_few : (frames : List Frame) (port : Port) → can_send w frames port ≡ true → length frames ≤ 65536
+  sent_few : (frames : List Frame) (port : Port) → can_send w frames port ≡ true → length frames ≤ most_pool
   sent_few frames port can =
       let one = and_parts (is_switch_port_name port.name) (is_settled w port.session && is_sendable frames) can in
       let two = and_parts (is_settled w port.session) (is_sendable frames) one.1 in
-      let three = and_parts (nat_le (length frames) 1023) (nat_le (size_of_frames frames) 1023 && list_all fits_buffer frames) two.1 in
-      let most = leb-true (length frames) 1023 three.0 in
+      let three = and_parts (nat_le (length frames) most_batch) (nat_le (size_of_frames frames) most_batch && list_all is_frame frames) two.1 in
+      let most = leb-true (length frames) most_batch three.0 in
       omega (arith, most)
 
-  items_few : (offered : ℕ) (items : List Item) (port peer : Port) → CanKeep s offered items port → peer_of w.ports port ≡ Some peer → length items ≤ 65536
+  items_few : (offered : ℕ) (items : List Item) (port peer : Port) → CanKeep s offered items port → peer_of w.ports port ≡ Some peer → length items ≤ most_pool
   items_few offered items port peer can found =
       let taken : length items ≡ min offered (space_of peer) = can.taken ∙ ap (λ (o : Option Port). taken_count o offered) found in
-      let most = leb-true offered 1023 can.few in
+      let most = leb-true offered most_batch can.few in
       omega (arith, taken, most)
 
-  send_little : (from : PortId) (frames : List Frame) (port : Port) → length frames ≤ 65536 → IsLittle (entry_made (Send from frames) (send_step s frames port))
+  send_little : (from : PortId) (frames : List Frame) (port : Port) → length frames ≤ most_pool → IsLittle (entry_made (Send from frames) (send_step s frames port))
   send_little from frames port most at =
       let short = count_few is_short frames in
       let named = length_named w.ports port w.pairs frames in
       let lone = count_few (is_lone w.ports port) (named_of w port frames) in
-      within_if 65536 (from.0 == at) (count_sent frames (send_step s frames port).reply) (record {
+      within_if most_pool (from.0 == at) (count_sent frames (send_step s frames port).reply) (record {
         sent = most;
         short = omega (arith, short, most);
         lone = omega (arith, lone, named, most);
@@ -176,26 +177,26 @@ module _ (s : Standing) (n : Numbered s) (room : Roomy s) (low : s.world.pool �
         read = omega arith;
       })
 
-  shared_little : (found : Option Port) (frames : List Frame) → length frames ≤ 65536 → IsWithin 65536 (count_shared (grant_reply_at found frames))
-  shared_little None frames most = within_zero 65536
+  shared_little : (found : Option Port) (frames : List Frame) → length frames ≤ most_pool → IsWithin most_pool (count_shared (grant_reply_at found frames))
+  shared_little None frames most = within_zero most_pool
   shared_little (Some port) frames most =
       let fitting = length_fitting (space_of port) frames in
       record { sent = omega arith; short = omega arith; lone = omega arith; given = omega (arith, fitting, most); full = omega (arith, most); read = omega arith }
 
-  read_within : (count : ℕ) → count ≤ 65536 → IsWithin 65536 (record zero_counts { read = count })
+  read_within : (count : ℕ) → count ≤ most_pool → IsWithin most_pool (record zero_counts { read = count })
   read_within count most = record { sent = omega arith; short = omega arith; lone = omega arith; given = omega arith; full = omega arith; read = most }
 
-  put_within : (b c : Bool) (count : ℕ) → count ≤ 65536 → IsWithin 65536 (sum_of_counts (counts_if b (record zero_counts { sent = count })) (counts_if c (record zero_counts { given = count })))
+  put_within : (b c : Bool) (count : ℕ) → count ≤ most_pool → IsWithin most_pool (sum_of_counts (counts_if b (record zero_counts { sent = count })) (counts_if c (record zero_counts { given = count })))
   put_within true true count most = record { sent = omega (arith, most); short = omega arith; lone = omega arith; given = omega (arith, most); full = omega arith; read = omega arith }
   put_within true false count most = record { sent = omega (arith, most); short = omega arith; lone = omega arith; given = omega arith; full = omega arith; read = omega arith }
   put_within false true count most = record { sent = omega arith; short = omega arith; lone = omega arith; given = omega (arith, most); full = omega arith; read = omega arith }
   put_within false false count most = record { sent = omega arith; short = omega arith; lone = omega arith; given = omega arith; full = omega arith; read = omega arith }
 
-  gone_within : (b c : Bool) → IsWithin 65536 (sum_of_counts (counts_if b zero_counts) (counts_if c zero_counts))
-  gone_within true true = within_zero 65536
-  gone_within true false = within_zero 65536
-  gone_within false true = within_zero 65536
-  gone_within false false = within_zero 65536
+  gone_within : (b c : Bool) → IsWithin most_pool (sum_of_counts (counts_if b zero_counts) (counts_if c zero_counts))
+  gone_within true true = within_zero most_pool
+  gone_within true false = within_zero most_pool
+  gone_within false true = within_zero most_pool
+  gone_within false false = within_zero most_pool
 
   still : (e : Entry) (offers : List Offer) → IsLittle e → Each IsFew offers → (left : Standing) → left.world.offers ≡ offers → left.world.counts ≡ map (with_counted w e) w.counts → Bounded e left
   still e offers little all left same counted = record {
@@ -216,38 +217,38 @@ module _ (s : Standing) (n : Numbered s) (room : Roomy s) (low : s.world.pool �
   quiet _ _ _ (counts at port e) =
       let x = entry_made (Stat at) (unchanged s port.session (Counted (world_counts w.counts port.id))) in still x w.offers (nothing x (λ p. refl)) few _ refl refl
 
-  more : (origin session : ℕ) (wanted : Port → List Frame) → ((port : Port) → length (wanted port) ≤ 65536) → Each IsFew (w.offers ++ offers_of origin session wanted w.ports)
+  more : (origin session : ℕ) (wanted : Port → List Frame) → ((port : Port) → length (wanted port) ≤ most_pool) → Each IsFew (w.offers ++ offers_of origin session wanted w.ports)
   more origin session wanted all = each-append IsFew w.offers (offers_of origin session wanted w.ports) few (offers_few origin session wanted all w.ports)
 
-  wanted_few : (frames : List Frame) (port : Port) → length frames ≤ 65536 → (p : Port) → length (wanted_frames port (transmit_monitor w port.id) (named_of w port frames) p) ≤ 65536
+  wanted_few : (frames : List Frame) (port : Port) → length frames ≤ most_pool → (p : Port) → length (wanted_frames port (transmit_monitor w port.id) (named_of w port frames) p) ≤ most_pool
   wanted_few frames port most p =
       let kept = length_filter (is_wanted_at port (transmit_monitor w port.id) p) (named_of w port frames) in
       let mapped = length-map (filter (is_wanted_at port (transmit_monitor w port.id) p) (named_of w port frames)) frame_of in
       let named = length_named w.ports port w.pairs frames in
       omega (arith, kept, mapped, named, most)
 
-  read : (ask : Ask) (at : PortId) (back : List ℕ) (port : Port) → Receives ask at back → length (delivered_frames port) ≤ 65536 → Left s Bounded ask (sync_step s back port)
+  read : (ask : Ask) (at : PortId) (back : List ℕ) (port : Port) → Receives ask at back → length (delivered_frames port) ≤ most_pool → Left s Bounded ask (sync_step s back port)
   read _ _ _ port (by_sync at back) most =
       let x = entry_made (Sync at back) (sync_step s back port) in
-      still x _ (λ p. within_if 65536 (at.0 == p) (count_gave_at (sync_step s back port).reply) (read_within (length (delivered_frames port)) most))
+      still x _ (λ p. within_if most_pool (at.0 == p) (count_gave_at (sync_step s back port).reply) (read_within (length (delivered_frames port)) most))
       (more (w.entry_count + 1) port.session (monitored_frames (receive_monitor w port.id) (delivered_frames port)) (monitored_few (receive_monitor w port.id) (delivered_frames port) most)) _ refl refl
   read _ _ _ port (by_get at back) most =
       let x = entry_made (Get at back) (sync_step s back port) in
-      still x _ (λ p. within_if 65536 (at.0 == p) (count_gave_at (sync_step s back port).reply) (read_within (length (delivered_frames port)) most))
+      still x _ (λ p. within_if most_pool (at.0 == p) (count_gave_at (sync_step s back port).reply) (read_within (length (delivered_frames port)) most))
       (more (w.entry_count + 1) port.session (monitored_frames (receive_monitor w port.id) (delivered_frames port)) (monitored_few (receive_monitor w port.id) (delivered_frames port) most)) _ refl refl
 
   grant : (origin : ℕ) (to : PortId) (offer : Offer) → first_offer w origin ≡ Some offer → Left s Bounded (Grant origin to) (grant_step s offer)
   grant origin to offer first =
       let x = entry_made (Grant origin to) (grant_step s offer) in
       let most = each-find IsFew (λ (o : Offer). o.origin == origin) w.offers offer few first in
-      still x _ (λ p. within_if 65536 (to.0 == p) (count_shared (grant_step s offer).reply) (shared_little (open_port w.ports offer.to) offer.frames most))
+      still x _ (λ p. within_if most_pool (to.0 == p) (count_shared (grant_step s offer).reply) (shared_little (open_port w.ports offer.to) offer.frames most))
       (each-without_first IsFew offer.origin w.offers few) _ refl refl
 
-  put : (at : PortId) (offered : ℕ) (items : List Item) (port peer : Port) → length items ≤ 65536 → Left s Bounded (PutKept at offered) (put_step s items port peer)
+  put : (at : PortId) (offered : ℕ) (items : List Item) (port peer : Port) → length items ≤ most_pool → Left s Bounded (PutKept at offered) (put_step s items port peer)
   put at offered items port peer most =
       let x = entry_made (PutKept at offered) (put_step s items port peer) in
       let size = length-map items frame_of_item in
-      let frames : length (frames_of_items items) ≤ 65536 = omega (arith, size, most) in
+      let frames : length (frames_of_items items) ≤ most_pool = omega (arith, size, most) in
       still x _ (λ p. put_within (at.0 == p) (puts_to_port w.ports at.0 p) (length items) most)
       (more (w.entry_count + 1) port.session (monitored_frames (transmit_monitor w port.id) (frames_of_items items)) (monitored_few (transmit_monitor w port.id) (frames_of_items items) frames)) _ refl refl
 
@@ -255,7 +256,7 @@ module _ (s : Standing) (n : Numbered s) (room : Roomy s) (low : s.world.pool �
   opened x id little left same counted = record {
     little = little;
     offers = subst (Each IsFew) (sym same) few;
-    counted = subst (Each IsLow) (sym counted) (each-append IsLow (map (with_counted w x) w.counts) ((record { port = id; counts = zero_counts }) ∷ []) (lows x little) (within_zero (65536 * (w.entry_count + 1)), tt));
+    counted = subst (Each IsLow) (sym counted) (each-append IsLow (map (with_counted w x) w.counts) ((record { port = id; counts = zero_counts }) ∷ []) (lows x little) (within_zero (most_pool * (w.entry_count + 1)), tt));
   }
 
   finished : (x : Entry) (at : ℕ) → IsLittle x → (left : Standing) → left.world.offers ≡ w.offers → left.world.counts ≡ filter (λ (c : PortCounts). not (c.port == at)) (map (with_counted w x) w.counts) → Bounded x left
@@ -288,7 +289,7 @@ module _ (s : Standing) (n : Numbered s) (room : Roomy s) (low : s.world.pool �
   bounded : (e : Entry) → Follows s e → Bounded e (after s e)
   bounded e follows = follows-by s Bounded e follows kinds
 
-  fits_by : (n : ℕ) (c d : Counts) → n < 4294967296 → IsWithin (65536 * n) c → IsWithin 65536 d → SumFits c d
+  fits_by : (n : ℕ) (c d : Counts) → n < 4294967296 → IsWithin (most_pool * n) c → IsWithin most_pool d → SumFits c d
   fits_by n c d most one two = record {
     sent = (let x = one.sent in let y = two.sent in omega (arith, most, x, y));
     short = (let x = one.short in let y = two.short in omega (arith, most, x, y));
@@ -301,18 +302,18 @@ module _ (s : Standing) (n : Numbered s) (room : Roomy s) (low : s.world.pool �
   fits : (e : Entry) → Follows s e → w.entry_count < 4294967296 → Each (FitsAt w e) w.counts
   fits e follows most =
       let b = bounded e follows in
-      each-weaker (λ (c : PortCounts). IsWithin (65536 * w.entry_count) c.counts) (FitsAt w e) (λ c here. fits_by w.entry_count c.counts (counted_in c.port w e) most here (b.little c.port)) w.counts within
+      each-weaker (λ (c : PortCounts). IsWithin (most_pool * w.entry_count) c.counts) (FitsAt w e) (λ c here. fits_by w.entry_count c.counts (counted_in c.port w e) most here (b.little c.port)) w.counts within
 
 -- ---- every legal history
 
 record AreBounded (w : World) : Type 0 where
   offers_few : Each IsFew w.offers
-  counts_low : Each (λ (c : PortCounts). IsWithin (65536 * w.entry_count) c.counts) w.counts
+  counts_low : Each (λ (c : PortCounts). IsWithin (most_pool * w.entry_count) c.counts) w.counts
 
-pool_low : (pool : ℕ) (h : List Entry) → pool ≤ 65536 → IsLegal pool h → (world_of pool h).pool ≤ 65536
-pool_low pool h low legal = subst (λ (n : ℕ). n ≤ 65536) (sym (history-stands pool h legal).pool_is) low
+pool_low : (pool : ℕ) (h : List Entry) → pool ≤ most_pool → IsLegal pool h → (world_of pool h).pool ≤ most_pool
+pool_low pool h low legal = subst (λ (n : ℕ). n ≤ most_pool) (sym (history-stands pool h legal).pool_is) low
 
-history_bounded : (pool : ℕ) → pool ≤ 65536 → (h : List Entry) → IsLegal pool h → AreBounded (world_of pool h)
+history_bounded : (pool : ℕ) → pool ≤ most_pool → (h : List Entry) → IsLegal pool h → AreBounded (world_of pool h)
 history_bounded pool low h legal = history-by pool (λ (h : List Entry). AreBounded (world_of pool h)) keeps (record { offers_few = tt; counts_low = tt }) h legal
   where
     keeps : (h : List Entry) (e : Entry) → IsLegal pool h → Follows (standing_of pool h) e → AreBounded (world_of pool h) → AreBounded (world_of pool (h ++ e ∷ []))
@@ -324,7 +325,7 @@ history_bounded pool low h legal = history-by pool (λ (h : List Entry). AreBoun
         let count : (after s e).world.entry_count ≡ s.world.entry_count + 1 = count-standing_after s e (recorded_step s e.ask e.reply) in
         subst (λ (t : Standing). AreBounded t.world) (sym next) (record {
           offers_few = b.offers;
-          counts_low = subst (λ (m : ℕ). Each (λ (c : PortCounts). IsWithin (65536 * m) c.counts) (after s e).world.counts) (sym count) b.counted;
+          counts_low = subst (λ (m : ℕ). Each (λ (c : PortCounts). IsWithin (most_pool * m) c.counts) (after s e).world.counts) (sym count) b.counted;
         })
 
 pub sums_fit : SumsFit

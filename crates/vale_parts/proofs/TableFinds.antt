@@ -4,6 +4,7 @@ use Rattle.std.specs.List.{AllByRecursion as Each, list_any}
 use Rattle.std.proofs.lemmas.Bool.{cases_Bool, eq-eqb, eqb-true, and_right, and_parts}
 use Rattle.std.proofs.lemmas.Slice.Eq.{bytes_eq-Decides}
 use Rattle.std.proofs.lemmas.List.{length-set}
+use Rattle.nm_types.specs.Limits.{buckets}
 use Rattle.nm_types.specs.Frames.{Frame}
 use Rattle.nm_types.specs.Names.{switch_of}
 use Rattle.nm_types.specs.declared.id.Mac.{Mac}
@@ -27,7 +28,7 @@ use Rattle.vale_parts.proofs.SwitchPairs.{found-port}
 use Rattle.vale_entry.specs.Laws.{IsPairOf}
 
 abbrev pub IsTable : Entries → Type 0
-IsTable entries = length entries ≡ 1024
+IsTable entries = length entries ≡ buckets
 
 -- ---- learning
 

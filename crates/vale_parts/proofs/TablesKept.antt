@@ -3,6 +3,7 @@ use Rattle.std.proofs.Common.{ℕ, ◌+◌, ◌≡◌, Bool, true, false, cond, 
 use Rattle.std.specs.List.{AllByRecursion as Each}
 use Rattle.std.proofs.lemmas.Bool.{and_parts, and_cases, true≢false}
 use Rattle.std.proofs.lemmas.Slice.Eq.{bytes_eq-Decides}
+use Rattle.nm_types.specs.Limits.{buckets}
 use Rattle.nm_types.specs.Frames.{Frame}
 use Rattle.nm_types.specs.Names.{switch_of, is_switch_port_name}
 use Rattle.nm_types.specs.Sendable.{is_sendable}
@@ -169,7 +170,7 @@ pub fresh_nothing : FreshTablesFindNothing
 fresh_nothing = none_found_at_first
 
 pub fresh_size : FreshTablesAreTables
-fresh_size = length-replicate 1024 nothing
+fresh_size = length-replicate buckets nothing
   where
     nothing : Option Station
     nothing = None

@@ -1,11 +1,11 @@
 -- Laws of the look-up of a batch: it names what the world names, and what it wants is what is offered.
 use Rattle.std.specs.Prelude.{ℕ, ◌≡◌, true, List, [], map, count_by, length, Some, ◌≤◌, All}
+use Rattle.nm_types.specs.Limits.{buckets, most_batch}
 use Rattle.nm_types.specs.Addresses.{is_short}
-use Rattle.nm_types.specs.Frames.{Frame, slots_of}
+use Rattle.nm_types.specs.Frames.{Frame}
 use Rattle.nm_types.specs.Names.{switch_of}
-use Rattle.nm_types.specs.Sendable.{fits_buffer, is_sendable}
+use Rattle.nm_types.specs.Sendable.{is_sendable}
 use Rattle.nm_types.specs.declared.id.PortId.{PortId}
-use Rattle.nm_frag.specs.Parts.{slots_of_length}
 use Rattle.vale_learn.specs.AddressTable.{Entries}
 use Rattle.vale_batch.specs.Looking.{looked_up_batch, IsFrame}
 use Rattle.vale_batch.specs.Wants.{Wanted, wants_of, is_lone as is_lone_looked, IsRising, port_number}
@@ -24,16 +24,12 @@ use Rattle.vale_parts.specs.Batches.{AreLookedAs, AreOffersOf, wants_monitored, 
 pub record IsSender (w : World) (from : PortId) (frames : List Frame) (port : Port) (entries : Entries) : Type 0 where
   pub here : open_port w.ports from.0 ≡ Some port
   pub can : can_send w frames port ≡ true
-  pub size : length entries ≡ 1024
+  pub size : length entries ≡ buckets
   pub finds : Finds w (switch_of port.name) entries
 
 -- what its switch's open ports want
 abbrev pub wants_at : World → PortId → List Frame → Port → Entries → List Wanted
 wants_at w from frames port entries = wants_of from (looked_up_batch from entries frames) (open_ports_on (switch_of port.name) w.ports)
-
--- a frame that fits a buffer takes one slot
-abbrev pub SlotsAreOne : Type 0
-SlotsAreOne = (frame : Frame) → fits_buffer frame ≡ true → slots_of_length (length frame.bytes) ≡ slots_of frame
 
 abbrev pub OpenPortsRise : Type 0
 OpenPortsRise = (pool : ℕ) (history : List Entry) (switch : List ℕ) → IsRising (map port_number (open_ports_on switch (world_of pool history).ports))
@@ -68,7 +64,7 @@ DestsAreWanted = (frames : List Frame) (wants : List Wanted) (offers : List Offe
 
 -- frames that may be sent are few enough, and short enough, to be looked up
 pub record CanBeLookedUp (frames : List Frame) : Type 0 where
-  pub few : length frames ≤ 1023
+  pub few : length frames ≤ most_batch
   pub each : All IsFrame frames
 
 abbrev pub SendableCanBeLookedUp : Type 0

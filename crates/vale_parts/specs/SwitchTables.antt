@@ -1,6 +1,7 @@
 -- The tables of all switches that have a port.
 use Rattle.std.specs.Prelude.{ℕ, Bool, ◌≡◌, ◌≤◌, true, List, length, map, count_by, bytes_eq}
 use Rattle.std.specs.List.{list_any, AllByRecursion}
+use Rattle.nm_types.specs.Limits.{buckets}
 use Rattle.nm_types.specs.Names.{switch_of, is_switch_port_name}
 use Rattle.vale_learn.specs.AddressTable.{Entries}
 use Rattle.vale_entry.specs.declared.entry.Ask.{Ask}
@@ -21,7 +22,7 @@ abbrev pub has_table : List ℕ → List SwitchTable → Bool
 has_table switch tables = list_any (is_table_of switch) tables
 
 pub record IsTableIn (w : World) (table : SwitchTable) : Type 0 where
-  pub size : length table.entries ≡ 1024
+  pub size : length table.entries ≡ buckets
   pub finds : Finds w table.switch table.entries
 
 abbrev pub HasTable : List SwitchTable → Port → Type 0

@@ -1,6 +1,7 @@
 -- Laws of the learning tables of the switches.
 use Rattle.std.specs.Prelude.{ℕ, ◌≡◌, true, false, List, [], ◌∷◌, ◌++◌, length, Some}
 use Rattle.std.specs.List.{list_any}
+use Rattle.nm_types.specs.Limits.{buckets}
 use Rattle.nm_types.specs.declared.id.PortId.{PortId}
 use Rattle.vale_learn.specs.AddressTable.{Entries, no_stations, restored, entry_of}
 use Rattle.vale_learn.specs.AddressTable.{learned as table_learned}
@@ -20,7 +21,7 @@ use Rattle.vale_parts.specs.Tables.{FindsPairs, Finds, FindsNothing, table_after
 
 -- what an entry makes of a switch's table finds what is learned once the entry is made
 abbrev pub TablesFollow : Type 0
-TablesFollow = (pool : ℕ) (history : List Entry) (entry : Entry) (switch : List ℕ) (entries : Entries) → Follows (standing_of pool history) entry → length entries ≡ 1024
+TablesFollow = (pool : ℕ) (history : List Entry) (entry : Entry) (switch : List ℕ) (entries : Entries) → Follows (standing_of pool history) entry → length entries ≡ buckets
     → Finds (world_of pool history) switch entries → Finds (world_of pool (history ++ entry ∷ [])) switch (table_after (world_of pool history) switch entry.ask entries)
 
 -- a table that finds nothing is one for each switch that has no open port
@@ -48,17 +49,17 @@ abbrev pub FreshTablesFindNothing : Type 0
 FreshTablesFindNothing = FindsNothing no_stations
 
 abbrev pub FreshTablesAreTables : Type 0
-FreshTablesAreTables = length no_stations ≡ 1024
+FreshTablesAreTables = length no_stations ≡ buckets
 
 abbrev pub TablesKeepTheirSize : Type 0
-TablesKeepTheirSize = (w : World) (switch : List ℕ) (ask : Ask) (entries : Entries) → length entries ≡ 1024 → length (table_after w switch ask entries) ≡ 1024
+TablesKeepTheirSize = (w : World) (switch : List ℕ) (ask : Ask) (entries : Entries) → length entries ≡ buckets → length (table_after w switch ask entries) ≡ buckets
 
 -- one frame that a port of the switch sends
 abbrev pub FramesAreLearned : Type 0
-FramesAreLearned = (ports : List Port) (sender : Port) (pairs : List Pair) (entries : Entries) (frame : Frame) → length entries ≡ 1024 → is_open ports sender.id ≡ true
+FramesAreLearned = (ports : List Port) (sender : Port) (pairs : List Pair) (entries : Entries) (frame : Frame) → length entries ≡ buckets → is_open ports sender.id ≡ true
     → FindsPairs ports pairs (switch_of sender.name) entries → FindsPairs ports (learned sender pairs frame) (switch_of sender.name) (learned_from (port_id sender.id) entries frame)
 
 -- what was learned may be taken back, from what the entry held before
 abbrev pub LearningIsTakenBack : Type 0
-LearningIsTakenBack = (ports : List Port) (pairs : List Pair) (switch : List ℕ) (entries : Entries) (address : Mac) (port : PortId) → length entries ≡ 1024
+LearningIsTakenBack = (ports : List Port) (pairs : List Pair) (switch : List ℕ) (entries : Entries) (address : Mac) (port : PortId) → length entries ≡ buckets
     → FindsPairs ports pairs switch entries → FindsPairs ports pairs switch (restored (table_learned entries address port) address (entry_of entries address.0))

@@ -3,7 +3,6 @@
 #![tactic(auto)]
 
 ghost use Rattle.vale_parts.specs.BatchLaws.{BatchesAreNamed, LoneFramesAreCounted};
-ghost use Rattle.vale_parts.specs.BatchLaws.{SlotsAreOne};
 ghost use Rattle.vale_parts.specs.BatchLaws.{SendableCanBeLookedUp, OpenPortsRise};
 ghost use Rattle.vale_parts.specs.BatchLaws.{SentWantsAreOffers, GivenWantsAreOffers};
 ghost use Rattle.vale_parts.specs.BatchLaws.{PutWantsAreOffers, DestsAreWanted, SendsAreReplied};
@@ -43,11 +42,10 @@ pub fn empty_tables_serve()
 {}
 
 /// A batch that is looked up in the table of its sender's switch is named as the world names it, in
-/// slots of one for each frame, with as many frames for no port.
+/// as many slots, with as many frames for no port.
 pub fn batches_are_named()
     ensures named { BatchesAreNamed }
     ensures lone { LoneFramesAreCounted }
-    ensures slots { SlotsAreOne }
     ensures sendable { SendableCanBeLookedUp }
 {}
 

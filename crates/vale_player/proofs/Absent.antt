@@ -71,7 +71,7 @@ module _ (user : Machine) (none : user.session ≡ None) (ports : user.own.ports
   uncalled : (task : Task) → NeedsSession task → call_of_task user task ≡ None
   uncalled Arrive needs = absurd needs
   uncalled (OpenPort name tx rx extra) needs = ap (option_map (λ (session : SessionId). Open session name tx rx extra)) none
-  uncalled (PutFrame name bytes) needs = ap (option_and_then (put_call user.own)) (unnamed name)
+  uncalled (PutFrame name bytes) needs = ap (option_and_then (put_call user.own bytes)) (unnamed name)
   uncalled (SendFrames name) needs = ap (option_and_then (send_call user.own)) (unnamed name)
   uncalled (TakeFrames name) needs = ap (option_map (rx_call user.own)) (unnamed name)
   uncalled (ChangeOwn act) needs = refl

@@ -1,8 +1,9 @@
 -- What is kept of a session's ports, call by call.
-use Rattle.std.proofs.Common.{ℕ, suc, ◌+◌, ◌-◌, ◌<◌, ◌≤◌, ◌≡◌, ◌==◌, Bool, true, false, cond, List, [], ◌∷◌, ◌++◌, map, length, Option, Some, None, IfSome, Result, Ok, Err, IfOk, IfErr, refl, sym, ◌∙◌, ap, subst, arith, le_refl, append_assoc, append-nil}
+use Rattle.std.proofs.Common.{ℕ, ◌+◌, ◌≤◌, ◌≡◌, ◌==◌, Bool, true, false, cond, List, [], ◌∷◌, ◌++◌, map, drop, length, slice_get, Option, Some, None, option_map, IfSome, Result, Ok, Err, IfOk, IfErr, refl, sym, ◌∙◌, ap, subst, le_refl, append_assoc, append-nil}
 use Rattle.std.specs.Prelude.{OnOk}
 use Rattle.std.proofs.lemmas.Bool.{eqb-true, eq-eqb}
-use Rattle.std.proofs.lemmas.List.{map-append}
+use Rattle.std.proofs.lemmas.List.{map-append, drop_all}
+use Rattle.std.proofs.lemmas.Option.{same_Some}
 use mathlib.Core.List.{IsPrefix}
 use Rattle.nm_turn.specs.Passes.{Knows, kept_view}
 use Rattle.nm_types.specs.declared.fault.OpenFault.{OpenFault}
@@ -16,7 +17,9 @@ use Rattle.nm_types.specs.declared.fault.SyncFault.TheVariants as faults
 use Rattle.nm_types.specs.declared.id.Counts.{Counts}
 use Rattle.nm_types.specs.declared.id.PortId.{PortId}
 use Rattle.nm_types.specs.declared.id.Sides.{Sides}
+use Rattle.nm_types.specs.Frames.{Frame}
 use Rattle.nm_types.specs.OwnPorts.{OwnState}
+use Rattle.nm_types.proofs.Lists.{drop-slice_get}
 use Rattle.pcap_io.specs.declared.record.Record.{Record}
 use Rattle.vale_entry.specs.declared.entry.Ask.{Ask}
 use Rattle.vale_entry.specs.declared.entry.Ask.TheVariants.{Watch, Stat}
@@ -40,21 +43,20 @@ use Rattle.nm_user.specs.Syncs.{Synced, SyncsNot, IsUnsent}
 use Rattle.nm_user.specs.Receives.{HasPort, IsReceived}
 use Rattle.nm_user.specs.Leaving.{IsDetached, IsLeft}
 use Rattle.nm_user.specs.PortReads.{reads_at, IsPortOf}
-use Rattle.nm_user.specs.Saving.{frames_before_tail, frame_before_tail, bytes_or_none}
+use Rattle.nm_user.specs.Saving.{frames_from}
 use Rattle.vale_own.specs.Laws.{IsOfOther}
 use Rattle.nm_user.proofs.Later.{goes-on}
 use Rattle.nm_user.proofs.Opened.{opening}
 use Rattle.nm_user.proofs.SavingReads.{ports-stay-own, ports-are-own}
 use Rattle.nm_user.proofs.SavingHistory.{told-stays}
 use Rattle.vale_replay.specs.Machine.{Save}
-use Rattle.vale_replay.specs.Saved.{saved_in, saved_frames}
+use Rattle.vale_replay.specs.Saved.{saved_from, saved_in, saved_frames}
 use Rattle.vale_player.specs.declared.frames.SyncEnd.{SyncEnd}
 use Rattle.vale_player.specs.declared.frames.SyncEnd.TheVariants as ends
 use Rattle.vale_player.specs.Syncing.{EndsTx, EndsRx, RxMadeNone}
 use Rattle.vale_replay.specs.Tasks.{TakeFrames}
 use Rattle.vale_player.specs.Players.{PlayerState, Does, StopsAt, IsStill}
 use Rattle.vale_player.proofs.Leading.{PortAt, takes-by, still-rx, still-untaken, take-stops}
-use Rattle.vale_player.specs.Saving.{saved_bytes}
 use Rattle.vale_player.specs.Kept.{record_of}
 use Rattle.vale_player.specs.Kept.{KeptFrames, IsKept, AreKept, IsKeeping, SavesNot, SaveNothing, ReceivesNothing, CameRx, stop_of_end, record_at, new_records, grown_if, AreWhole, KeptStaysWhole}
 use Rattle.vale_player.proofs.SavingFrames.{silent, saved-begin, calls-save-nothing, syncs-save-nothing, refused-save-nothing, ring-is-saved}
@@ -213,11 +215,11 @@ module _ (s t : SessionState) (at : ℕ) (received : Received) (there : IsThere 
   later = synced-later is.synced
 
   -- what it has brought to its port
-  grown-here : (k : KeptFrames) → k.id ≡ at → IsKept s k → IsKept t (record k { records = k.records ++ new_records t.own at received })
+  grown-here : (k : KeptFrames) → k.id ≡ at → IsKept s k → IsKept t (record k { records = k.records ++ new_records t.own at is.at.port.rx.ring.tail received })
   grown-here k same kept =
       let pool = s.fixed.pool in
       let old = saved_frames pool s.knows.seen k.id in
-      let more = saved_bytes received.entry 0 (frames_before_tail t.own at received.gave) in
+      let more = saved_from received.entry 0 (frames_from t.own at is.at.port.rx.ring.tail) in
       let grown : saved_frames t.fixed.pool t.knows.seen k.id ≡ old ++ more =
       subst (λ (n : ℕ). saved_frames t.fixed.pool t.knows.seen n ≡ saved_frames pool s.knows.seen n ++ more) (sym same) (ring-is-saved s t at received there after is) in
       record {
@@ -231,14 +233,14 @@ module _ (s t : SessionState) (at : ℕ) (received : Received) (there : IsThere 
     records = kept.records ∙ ap (map record_of) (sym (other-receives-save-nothing s t k.id at received there after kept.port apart is));
   }
 
-  grown-one : (k : KeptFrames) → IsKept s k → IsKept t (grown_if t.own at received k)
+  grown-one : (k : KeptFrames) → IsKept s k → IsKept t (grown_if t.own at is.at.port.rx.ring.tail received k)
   grown-one k kept = by (k.id == at) refl
     where
-      by : (b : Bool) → (k.id == at) ≡ b → IsKept t (cond b (record k { records = k.records ++ new_records t.own at received }) k)
+      by : (b : Bool) → (k.id == at) ≡ b → IsKept t (cond b (record k { records = k.records ++ new_records t.own at is.at.port.rx.ring.tail received }) k)
       by true e = grown-here k (eqb-true k.id at e) kept
       by false e = grown-other k (λ same. let yes = eq-eqb k.id at (sym same) in let bad : true ≡ false = sym yes ∙ e in cc) kept
 
-  pub grown-kept : (kept : List KeptFrames) → AreKept s kept → AreKept t (map (grown_if t.own at received) kept)
+  pub grown-kept : (kept : List KeptFrames) → AreKept s kept → AreKept t (map (grown_if t.own at is.at.port.rx.ring.tail received) kept)
   grown-kept [] all = tt
   grown-kept (k ∷ kept) all = (grown-one k all.0, grown-kept kept all.1)
 
@@ -287,27 +289,33 @@ whole-stays pool past more (k ∷ kept) legal all = (
 
 -- ---- the copies
 
--- frames are copied one by one, from the farthest before the tail on
-pub one-record-more : (own : OwnState) (id entry count place : ℕ) (done new : List Record) (made : Record) (all : List Record) → place < count
-    → made ≡ record_at entry place (bytes_or_none (frame_before_tail own id (count - place))) → new ≡ done ++ made ∷ []
-    → done ++ map record_of (saved_bytes entry place (frames_before_tail own id (count - place))) ≡ all
-    → new ++ map record_of (saved_bytes entry (place + 1) (frames_before_tail own id (count - (place + 1)))) ≡ all
-one-record-more own id entry count place done new made all less is added before =
-    let left = count - (place + 1) in
-    let next : count - place ≡ suc left = omega (arith, less) in
-    let rest = map record_of (saved_bytes entry (place + 1) (frames_before_tail own id left)) in
-    let here : made ≡ record_at entry place (bytes_or_none (frame_before_tail own id (suc left))) = subst (λ (n : ℕ). made ≡ record_at entry place (bytes_or_none (frame_before_tail own id n))) next is in
-    let whole : done ++ map record_of (saved_bytes entry place (frames_before_tail own id (suc left))) ≡ all =
-    subst (λ (n : ℕ). done ++ map record_of (saved_bytes entry place (frames_before_tail own id n)) ≡ all) next before in
+-- the frame at a place of those that have come
+frame-there : (frames : List Frame) (place : ℕ) (bytes : List ℕ) → option_map (λ (f : Frame). f.bytes) (slice_get frames place) ≡ Some bytes
+    → (f : Frame) × (slice_get frames place ≡ Some f) × (f.bytes ≡ bytes)
+frame-there frames place bytes is = by (slice_get frames place) is
+  where
+    by : (o : Option Frame) → option_map (λ (f : Frame). f.bytes) o ≡ Some bytes → (f : Frame) × (o ≡ Some f) × (f.bytes ≡ bytes)
+    by None e = absurd cc
+    by (Some f) e = (f, refl, same_Some f.bytes bytes e)
+
+-- frames are copied one by one, in their order
+pub one-record-more : (frames : List Frame) (entry place : ℕ) (bytes : List ℕ) (done new : List Record) (made : Record) (all : List Record)
+    → option_map (λ (f : Frame). f.bytes) (slice_get frames place) ≡ Some bytes → made ≡ record_at entry place bytes → new ≡ done ++ made ∷ []
+    → done ++ map record_of (saved_from entry place (drop place frames)) ≡ all → new ++ map record_of (saved_from entry (place + 1) (drop (place + 1) frames)) ≡ all
+one-record-more frames entry place bytes done new made all is made_is added before =
+    let at = frame-there frames place bytes is in
+    let rest = map record_of (saved_from entry (place + 1) (drop (place + 1) frames)) in
+    let next : drop place frames ≡ at.0 ∷ drop (place + 1) frames = drop-slice_get frames place at.0 at.1 in
+    let here : made ≡ record_at entry place at.0.bytes = made_is ∙ ap (record_at entry place) (sym at.2) in
+    let whole : done ++ record_at entry place at.0.bytes ∷ rest ≡ all = subst (λ (fs : List Frame). done ++ map record_of (saved_from entry place fs) ≡ all) next before in
     ap (λ (rs : List Record). rs ++ rest) added
     ∙ (append_assoc done (made ∷ []) rest
     ∙ (ap (λ (r : Record). done ++ r ∷ rest) here ∙ whole))
 
-pub all-records : (own : OwnState) (id entry count place : ℕ) (done all : List Record) → count ≤ place
-    → done ++ map record_of (saved_bytes entry place (frames_before_tail own id (count - place))) ≡ all → done ≡ all
-all-records own id entry count place done all past before =
-    let none : count - place ≡ 0 = omega (arith, past) in
-    let whole : done ++ [] ≡ all = subst (λ (n : ℕ). done ++ map record_of (saved_bytes entry place (frames_before_tail own id n)) ≡ all) none before in
+pub all-records : (frames : List Frame) (entry place : ℕ) (done all : List Record) → length frames ≤ place
+    → done ++ map record_of (saved_from entry place (drop place frames)) ≡ all → done ≡ all
+all-records frames entry place done all past before =
+    let whole : done ++ [] ≡ all = subst (λ (fs : List Frame). done ++ map record_of (saved_from entry place fs) ≡ all) (drop_all place frames past) before in
     sym (append-nil done) ∙ whole
 
 -- ---- on the session's own side, and of its pass

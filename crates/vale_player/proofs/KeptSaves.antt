@@ -17,7 +17,8 @@ use Rattle.nm_user.specs.Ports.{OpensNot}
 use Rattle.nm_user.specs.Receives.{HasPort}
 use Rattle.nm_user.proofs.Opened.{opening}
 use Rattle.vale_replay.specs.Machine.{Save}
-use Rattle.vale_player.specs.Kept.{KeptFrames, AreKept, IsKeeping, Keeps, KeepsAll, KeepsMore, AreOrLost, SavesBy, grown_if, kept_opened, kept_received, new_records, ports_in}
+use Rattle.vale_player.specs.Kept.{KeptFrames, AreKept, IsKeeping, Keeps, KeepsAll, KeepsMore, AreOrLost, SavesBy, grown_if, kept_opened, kept_received, new_records, ports_in, rx_tail}
+use Rattle.vale_player.proofs.ReceivedFrames.{tail-is}
 use Rattle.vale_player.proofs.KeptPorts.{grown-kept, untaken-kept, kept-stay, kept-then, begins-kept, open-saves}
 
 pub each-then : {X : Type 0} (P : X → Type 0) (xs : List X) (x : X) → AllByRecursion P xs → P x → AllByRecursion P (xs ++ x ∷ [])
@@ -37,28 +38,28 @@ find-more test (k ∷ kept) more some = by (test k) some (find-more test kept mo
     by true s rest = s
     by false s rest = rest s
 
-module _ (own : OwnState) (at : ℕ) (received : Received) where
-  grown-id : (k : KeptFrames) → (grown_if own at received k).id ≡ k.id
+module _ (own : OwnState) (at tail : ℕ) (received : Received) where
+  grown-id : (k : KeptFrames) → (grown_if own at tail received k).id ≡ k.id
   grown-id k = by (k.id == at)
     where
-      by : (b : Bool) → (cond b (record k { records = k.records ++ new_records own at received }) k).id ≡ k.id
+      by : (b : Bool) → (cond b (record k { records = k.records ++ new_records own at tail received }) k).id ≡ k.id
       by true = refl
       by false = refl
 
-  find-grown : (id : ℕ) (kept : List KeptFrames) → IsSome (find (has_id id) kept) → IsSome (find (has_id id) (map (grown_if own at received) kept))
+  find-grown : (id : ℕ) (kept : List KeptFrames) → IsSome (find (has_id id) kept) → IsSome (find (has_id id) (map (grown_if own at tail received) kept))
   find-grown id [] some = absurd cc
   find-grown id (k ∷ kept) some =
-      let grown = grown_if own at received k in
-      subst (λ (n : ℕ). IsSome (cond (n == id) (Some grown) (find (has_id id) (map (grown_if own at received) kept)))) (sym (grown-id k)) (by grown (k.id == id) some (find-grown id kept))
+      let grown = grown_if own at tail received k in
+      subst (λ (n : ℕ). IsSome (cond (n == id) (Some grown) (find (has_id id) (map (grown_if own at tail received) kept)))) (sym (grown-id k)) (by grown (k.id == id) some (find-grown id kept))
     where
-      by : (grown : KeptFrames) (b : Bool) → IsSome (cond b (Some k) (find (has_id id) kept)) → (IsSome (find (has_id id) kept) → IsSome (find (has_id id) (map (grown_if own at received) kept)))
-          → IsSome (cond b (Some grown) (find (has_id id) (map (grown_if own at received) kept)))
+      by : (grown : KeptFrames) (b : Bool) → IsSome (cond b (Some k) (find (has_id id) kept)) → (IsSome (find (has_id id) kept) → IsSome (find (has_id id) (map (grown_if own at tail received) kept)))
+          → IsSome (cond b (Some grown) (find (has_id id) (map (grown_if own at tail received) kept)))
       by grown true s rest = refl
       by grown false s rest = rest s
 
-received-keeps : (own : OwnState) (at : ℕ) (got : Option Received) (ports : List KeptFrames) (id : ℕ) → Keeps (Some ports) id → Keeps (Some (kept_received own at got ports)) id
-received-keeps own at None ports id keeps = keeps
-received-keeps own at (Some received) ports id keeps = find-grown own at received id ports keeps
+received-keeps : (own : OwnState) (at tail : ℕ) (got : Option Received) (ports : List KeptFrames) (id : ℕ) → Keeps (Some ports) id → Keeps (Some (kept_received own at tail got ports)) id
+received-keeps own at tail None ports id keeps = keeps
+received-keeps own at tail (Some received) ports id keeps = find-grown own at tail received id ports keeps
 
 opened-keeps : (names : List (List ℕ)) (name : List ℕ) (opened : Result PortId OpenFault) (ports : List KeptFrames) (id : ℕ) → Keeps (Some ports) id → Keeps (Some (kept_opened names name opened ports)) id
 opened-keeps names name (Err fault) ports id keeps = keeps
@@ -123,17 +124,21 @@ noted-keeping s saves save old new is keeps was = record {
 
 -- ---- a receive sync
 
-received-kept : (s t : SessionState) (at : ℕ) (got : Option Received) → IsThere None s → SavesBy s t at got → (ports : List KeptFrames) → AreKept s ports → AreKept t (kept_received t.own at got ports)
+received-kept : (s t : SessionState) (at : ℕ) (got : Option Received) → IsThere None s → SavesBy s t at got
+    → (ports : List KeptFrames) → AreKept s ports → AreKept t (kept_received t.own at (rx_tail s.own at) got ports)
 received-kept s t at None here saves ports all = untaken-kept s t at ports here saves all
-received-kept s t at (Some received) here saves ports all = grown-kept s t at received here saves.1 saves.0 ports all
+received-kept s t at (Some received) here saves ports all =
+    subst (λ (tail : ℕ). AreKept t (map (grown_if t.own at tail received) ports)) (sym (tail-is s.own at saves.0.at)) (grown-kept s t at received here saves.1 saves.0 ports all)
 
 pub received-keeping : (s t : SessionState) (at : ℕ) (got : Option Received) (saves : List Save) (old new : Option (List KeptFrames)) → IsThere None t → SavesBy s t at got
-    → AreOrLost (option_map (kept_received t.own at got) old) new → IsKeeping s saves old → IsKeeping t saves new
-received-keeping s t at got saves old new there by is was = record {
-  there = there;
-  all = kept-or-lost s t (kept_received t.own at got) old new (received-kept s t at got was.there by) is was.all;
-  noted = keeps-all old new saves (lost-more (kept_received t.own at got) old new (received-keeps t.own at got) is) was.noted;
-}
+    → AreOrLost (option_map (kept_received t.own at (rx_tail s.own at) got) old) new → IsKeeping s saves old → IsKeeping t saves new
+received-keeping s t at got saves old new there by is was =
+    let tail = rx_tail s.own at in
+    record {
+      there = there;
+      all = kept-or-lost s t (kept_received t.own at tail got) old new (received-kept s t at got was.there by) is was.all;
+      noted = keeps-all old new saves (lost-more (kept_received t.own at tail got) old new (received-keeps t.own at tail got) is) was.noted;
+    }
 
 -- ---- an opening
 

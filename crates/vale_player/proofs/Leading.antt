@@ -7,7 +7,8 @@ use Rattle.nm_types.specs.declared.fault.StepFault.{StepFault}
 use Rattle.nm_types.specs.declared.id.PortId.{PortId}
 use Rattle.nm_types.specs.declared.id.Side.TheVariants.{Tx}
 use Rattle.nm_types.specs.OwnPorts.{OwnRing, OwnPort, OwnState, port_with_id, port_with_name, ring_at, ring_on}
-use Rattle.nm_types.specs.OwnEdits.{has_slot, has_room, with_frame}
+use Rattle.nm_types.specs.OwnEdits.{has_slots, has_room, with_frame}
+use Rattle.nm_types.specs.Parts.{slots_of_bytes}
 use Rattle.vale_entry.specs.declared.entry.Ask.{Ask}
 use Rattle.vale_entry.specs.declared.entry.Reply.{Reply}
 use Rattle.vale_entry.specs.declared.entry.Reply.TheVariants as replies
@@ -97,11 +98,12 @@ module _ (own : OwnState) (name : List ℕ) (port : PortId) (p : PortAt own name
       by None is = refl
       by (Some x) is = absurd cc
 
-  pub room-by : has_room_at own name ≡ has_room own port.0
-  room-by = ap (λ (o : Option OwnPort). option_map_or (λ (q : OwnPort). has_room own q.id.0) o false) p.named ∙ ap (λ (id : PortId). has_room own id.0) p.id_is
+  pub room-by : (bytes : List ℕ) → has_room_at own name bytes ≡ has_room own port.0 bytes
+  room-by bytes =
+      ap (λ (o : Option OwnPort). option_map_or (λ (q : OwnPort). has_room own q.id.0 bytes) o false) p.named ∙ ap (λ (id : PortId). has_room own id.0 bytes) p.id_is
 
-pub room-away : (own : OwnState) (name : List ℕ) → option_map id-of (port_with_name own name) ≡ None → has_room_at own name ≡ false
-room-away own name none = ap (λ (o : Option OwnPort). option_map_or (λ (q : OwnPort). has_room own q.id.0) o false) (none-of (port_with_name own name) none)
+pub room-away : (own : OwnState) (name bytes : List ℕ) → option_map id-of (port_with_name own name) ≡ None → has_room_at own name bytes ≡ false
+room-away own name bytes none = ap (λ (o : Option OwnPort). option_map_or (λ (q : OwnPort). has_room own q.id.0 bytes) o false) (none-of (port_with_name own name) none)
 
 pub record Sender (own : OwnState) (name : List ℕ) (port : PortId) : Type 0 where
   pub of : PortAt own name port
@@ -137,30 +139,31 @@ module _ (number : ℕ) (saves : List Save) (s : SessionState) (name : List ℕ)
   send-calls : (tx : HasTx s.own port.0) → TaskCalls number saves s (SendFrames name) (tx_call s.own tx.port tx.ring)
   send-calls tx = ap (option_and_then (send_call s.own)) (tx-named tx) ∙ ap (option_map (tx_call s.own tx.port)) tx.has
 
-  put-calls : (bytes : List ℕ) (tx : HasTx s.own port.0) → has_room_at s.own name ≡ false → TaskCalls number saves s (PutFrame name bytes) (tx_call s.own tx.port tx.ring)
+  put-calls : (bytes : List ℕ) (tx : HasTx s.own port.0) → has_room_at s.own name bytes ≡ false → TaskCalls number saves s (PutFrame name bytes) (tx_call s.own tx.port tx.ring)
   put-calls bytes tx full =
       let there : ring_at Tx s.own port.0 ≡ Some tx.ring = ap (option_and_then (ring_on Tx)) tx.found ∙ tx.has in
-      let slot : has_slot tx.ring ≡ false = sym (ap (λ (o : Option OwnRing). option_map_or has_slot o false) there) ∙ (sym (room-by s.own name port p) ∙ full) in
-      ap (option_and_then (put_call s.own)) (tx-named tx) ∙ (ap (option_and_then (room_call s.own tx.port)) tx.has ∙ ap (λ (b : Bool). cond b None (Some (tx_call s.own tx.port tx.ring))) slot)
+      let slots : has_slots (slots_of_bytes bytes) tx.ring ≡ false =
+      sym (ap (λ (o : Option OwnRing). option_map_or (has_slots (slots_of_bytes bytes)) o false) there) ∙ (sym (room-by s.own name port p bytes) ∙ full) in
+      ap (option_and_then (put_call s.own bytes)) (tx-named tx) ∙ (ap (option_and_then (room_call s.own bytes tx.port)) tx.has ∙ ap (λ (b : Bool). cond b None (Some (tx_call s.own tx.port tx.ring))) slots)
 
   take-calls : (at : HasPort s.own port.0) → TaskCalls number saves s (TakeFrames name) (rx_call s.own at.port)
   take-calls at = ap (option_map (rx_call s.own)) (p.named ∙ (sym p.found ∙ at.found))
 
 -- a frame for which there is no ring is put without a call
-no-ring-call : (own : OwnState) (p : OwnPort) (tx : Option OwnRing) → option_map (id_beside p) tx ≡ None → option_and_then (room_call own p) tx ≡ None
-no-ring-call own p None e = refl
-no-ring-call own p (Some r) e = absurd cc
+no-ring-call : (own : OwnState) (bytes : List ℕ) (p : OwnPort) (tx : Option OwnRing) → option_map (id_beside p) tx ≡ None → option_and_then (room_call own bytes p) tx ≡ None
+no-ring-call own bytes p None e = refl
+no-ring-call own bytes p (Some r) e = absurd cc
 
 no-send-call : (own : OwnState) (p : OwnPort) (tx : Option OwnRing) → option_map (id_beside p) tx ≡ None → option_map (tx_call own p) tx ≡ None
 no-send-call own p None e = refl
 no-send-call own p (Some r) e = absurd cc
 
-pub ringless-put : (own : OwnState) (name : List ℕ) → sender_named own name ≡ None → option_and_then (put_call own) (port_with_name own name) ≡ None
-ringless-put own name e = by (port_with_name own name) e
+pub ringless-put : (own : OwnState) (name bytes : List ℕ) → sender_named own name ≡ None → option_and_then (put_call own bytes) (port_with_name own name) ≡ None
+ringless-put own name bytes e = by (port_with_name own name) e
   where
-    by : (found : Option OwnPort) → option_and_then id_with_ring found ≡ None → option_and_then (put_call own) found ≡ None
+    by : (found : Option OwnPort) → option_and_then id_with_ring found ≡ None → option_and_then (put_call own bytes) found ≡ None
     by None is = refl
-    by (Some p) is = no-ring-call own p p.tx is
+    by (Some p) is = no-ring-call own bytes p p.tx is
 
 ringless-send : (own : OwnState) (name : List ℕ) → sender_named own name ≡ None → option_and_then (send_call own) (port_with_name own name) ≡ None
 ringless-send own name e = by (port_with_name own name) e
@@ -171,8 +174,8 @@ ringless-send own name e = by (port_with_name own name) e
 
 -- ---- tasks without a call
 
-room-sound : (own : OwnState) (name : List ℕ) → IsSound own → has_room_at own name ≡ true → option_and_then (put_call own) (port_with_name own name) ≡ None
-room-sound own name sound = room-none own name (λ p named. by-id own name p sound named)
+room-sound : (own : OwnState) (name bytes : List ℕ) → IsSound own → has_room_at own name bytes ≡ true → option_and_then (put_call own bytes) (port_with_name own name) ≡ None
+room-sound own name bytes sound = room-none own name bytes (λ p named. by-id own name p sound named)
 
 pub passes-send : (p : PlayerState) (name : List ℕ) → sender_named p.session.own name ≡ None → Does p p (SendFrames name ∷ [])
 passes-send p name none rest began first come =
@@ -181,11 +184,11 @@ passes-send p name none rest began first come =
 stays-self : (p : PlayerState) (task : Task) → Leads p p (task ∷ []) (task ∷ [])
 stays-self p task rest began first come = come
 
-pub room-needs : (p : PlayerState) (name bytes : List ℕ) → IsSound p.session.own → has_room_at p.session.own name ≡ true → NeedsNone p p (PutFrame name bytes)
-room-needs p name bytes sound room = record { stays = stays-self p (PutFrame name bytes); none = room-sound p.session.own name sound room }
+pub room-needs : (p : PlayerState) (name bytes : List ℕ) → IsSound p.session.own → has_room_at p.session.own name bytes ≡ true → NeedsNone p p (PutFrame name bytes)
+room-needs p name bytes sound room = record { stays = stays-self p (PutFrame name bytes); none = room-sound p.session.own name bytes sound room }
 
 pub ringless-needs : (p : PlayerState) (name bytes : List ℕ) → sender_named p.session.own name ≡ None → NeedsNone p p (PutFrame name bytes)
-ringless-needs p name bytes none = record { stays = stays-self p (PutFrame name bytes); none = ringless-put p.session.own name none }
+ringless-needs p name bytes none = record { stays = stays-self p (PutFrame name bytes); none = ringless-put p.session.own name bytes none }
 
 -- so the frame is put
 pub puts : (p q : PlayerState) (name bytes : List ℕ) → NeedsNone p q (PutFrame name bytes) → Does p (with_put name bytes q) (PutFrame name bytes ∷ [])
@@ -252,33 +255,33 @@ module _ (p q : PlayerState) (here : IsThere None p.session) (there : IsThere No
     abbrev task : Task
     task = PutFrame name bytes
 
-    behind-is : (reset room : Bool) (rest : List Task) → is_reset (kept_ask ask) ≡ reset → has_room_at q.session.own name ≡ room
+    behind-is : (reset room : Bool) (rest : List Task) → is_reset (kept_ask ask) ≡ reset → has_room_at q.session.own name bytes ≡ room
         → behind_sync q.session ask name bytes rest ≡ cond (reset || not room) (lines_left rest) (task ∷ rest)
     behind-is reset room rest e f =
-        ap (λ (b : Bool). cond (b || not (has_room_at q.session.own name)) (lines_left rest) (task ∷ rest)) e
+        ap (λ (b : Bool). cond (b || not (has_room_at q.session.own name bytes)) (lines_left rest) (task ∷ rest)) e
         ∙ ap (λ (b : Bool). cond (reset || not b) (lines_left rest) (task ∷ rest)) f
 
     -- wherever the user comes by the sync
     abbrev GoesBehind : Type 0
     GoesBehind = (rest : List Task) (began : Knowing) (first : Machine) → HasCome began first p.session (machine_of p (task ∷ rest)) → HasCome began first q.session (machine_of q (behind_sync q.session ask name bytes rest))
 
-    needs-room : (room : Bool) → has_room_at q.session.own name ≡ room → is_reset (kept_ask ask) ≡ false → GoesBehind → NeedsNoneOrEnds p q task room
+    needs-room : (room : Bool) → has_room_at q.session.own name bytes ≡ room → is_reset (kept_ask ask) ≡ false → GoesBehind → NeedsNoneOrEnds p q task room
     needs-room true room accepted goes = record {
       stays = λ rest began first come. subst (λ (tasks : List Task). HasCome began first q.session (machine_of q tasks)) (behind-is false true rest accepted room) (goes rest began first come);
-      none = room-sound q.session.own name there.side.sound room;
+      none = room-sound q.session.own name bytes there.side.sound room;
     }
     needs-room false room accepted goes = λ rest began first come.
         subst (λ (tasks : List Task). HasCome began first q.session (machine_of q tasks)) (behind-is false false rest accepted room) (goes rest began first come)
 
     put-refused : is_reset (kept_ask ask) ≡ true → GoesBehind → Ends p q (task ∷ [])
     put-refused reset goes = λ rest began first come.
-        subst (λ (tasks : List Task). HasCome began first q.session (machine_of q tasks)) (behind-is true (has_room_at q.session.own name) rest reset refl) (goes rest began first come)
+        subst (λ (tasks : List Task). HasCome began first q.session (machine_of q tasks)) (behind-is true (has_room_at q.session.own name bytes) rest reset refl) (goes rest began first come)
 
     by-made : (reply : Reply) → Made p.session q.session ask reply → GoesBehind
     by-made reply made rest began first come =
         with-saves (behind_sync q.session ask name bytes rest) (puts-call p.number p.saves p.session q.session name bytes ask reply rest here there calls made began first come)
 
-    needs : (end : SyncEnd) (room : Bool) → has_room_at q.session.own name ≡ room → CameOf p.session q.session ask end → NeedsNoneOrEnds p q task (leaves_room end room)
+    needs : (end : SyncEnd) (room : Bool) → has_room_at q.session.own name bytes ≡ room → CameOf p.session q.session ask end → NeedsNoneOrEnds p q task (leaves_room end room)
     needs ends.Passed room is came =
         needs-room room is (or-first (is_reset (kept_ask ask)) (is_peer_gone came.reply) came.passes)
         (λ rest began first come. with-saves (behind_sync q.session ask name bytes rest)
@@ -295,18 +298,18 @@ module _ (p q : PlayerState) (here : IsThere None p.session) (there : IsThere No
     pub sends-by : (end : SyncEnd) → EndsTx p.session q.session port.0 end → DoesOrEnds p q (SendFrames name ∷ []) (has_passed end)
     sends-by end e = sends name (tx_call p.session.own e.tx.port e.tx.ring) (send-calls p.number p.saves p.session name port at e.tx) end e.came
 
-    pub needs-by : (bytes : List ℕ) (end : SyncEnd) (room : Bool) → has_room_at p.session.own name ≡ false → has_room_at q.session.own name ≡ room → EndsTx p.session q.session port.0 end
+    pub needs-by : (bytes : List ℕ) (end : SyncEnd) (room : Bool) → has_room_at p.session.own name bytes ≡ false → has_room_at q.session.own name bytes ≡ room → EndsTx p.session q.session port.0 end
         → NeedsNoneOrEnds p q (PutFrame name bytes) (leaves_room end room)
     needs-by bytes end room full is e =
         needs name bytes (tx_call p.session.own e.tx.port e.tx.ring) (put-calls p.number p.saves p.session name port at bytes e.tx full) end room is e.came
 
 -- where the sync leaves its ring, the name tells the port's room behind it
 pub needs-at : (p q : PlayerState) → IsThere None p.session → IsThere None q.session → q ≡ record p { session = q.session } → (name : List ℕ) (port : PortId) → Sender p.session.own name port → sender_named q.session.own name ≡ Some port
-    → (bytes : List ℕ) (end : SyncEnd) (room : Bool) → has_room p.session.own port.0 ≡ false → has_room q.session.own port.0 ≡ room → EndsTx p.session q.session port.0 end
+    → (bytes : List ℕ) (end : SyncEnd) (room : Bool) → has_room p.session.own port.0 bytes ≡ false → has_room q.session.own port.0 bytes ≡ room → EndsTx p.session q.session port.0 end
     → NeedsNoneOrEnds p q (PutFrame name bytes) (leaves_room end room)
 needs-at p q here there same name port sender named bytes end room full is e =
     let behind = sender-found q.session.own name port there.side.sound named in
-    needs-by p q here there same name port sender.of bytes end room (room-by p.session.own name port sender.of ∙ full) (room-by q.session.own name port behind.of ∙ is) e
+    needs-by p q here there same name port sender.of bytes end room (room-by p.session.own name port sender.of bytes ∙ full) (room-by q.session.own name port behind.of bytes ∙ is) e
 
 pub room-behind : (end : SyncEnd) (room : Bool) → leaves_room end room ≡ true → room ≡ true
 room-behind ends.Passed room e = e
@@ -320,7 +323,7 @@ module _ (p q : PlayerState) (same : q ≡ record p { session = q.session }) (na
   pub send-stops : (fault : StepFault) → IsUnsent p.session q.session port.0 fault → StopsAt p q (SendFrames name) fault
   send-stops fault e = record { ask = tx_call p.session.own e.tx.port e.tx.ring; calls = send-calls p.number p.saves p.session name port at e.tx; none = e.none; same = same }
 
-  pub put-stops : (bytes : List ℕ) (fault : StepFault) → has_room_at p.session.own name ≡ false → IsUnsent p.session q.session port.0 fault → StopsAt p q (PutFrame name bytes) fault
+  pub put-stops : (bytes : List ℕ) (fault : StepFault) → has_room_at p.session.own name bytes ≡ false → IsUnsent p.session q.session port.0 fault → StopsAt p q (PutFrame name bytes) fault
   put-stops bytes fault full e = record { ask = tx_call p.session.own e.tx.port e.tx.ring; calls = put-calls p.number p.saves p.session name port at bytes e.tx full; none = e.none; same = same }
 
   pub still-tx : (end : SyncEnd) → EndsTx p.session q.session port.0 end → IsStill p q

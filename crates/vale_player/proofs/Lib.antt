@@ -34,3 +34,4 @@ pub mod SavingSyncs
 pub mod LinesRun
 pub mod KeptPorts
 pub mod KeptSaves
+pub mod ReceivedFrames

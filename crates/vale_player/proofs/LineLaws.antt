@@ -4,7 +4,8 @@ use Rattle.std.specs.Prelude.{option_and_then}
 use Rattle.std.specs.Option.{option_map_or}
 use Rattle.nm_types.specs.declared.id.Side.TheVariants.{Tx}
 use Rattle.nm_types.specs.OwnPorts.{OwnPort, OwnState, port_with_name, ring_on}
-use Rattle.nm_types.specs.OwnEdits.{has_slot, with_frame}
+use Rattle.nm_types.specs.OwnEdits.{has_slots, with_frame}
+use Rattle.nm_types.specs.Parts.{slots_of_bytes}
 use Rattle.vale_entry.specs.declared.entry.Ask.{Ask}
 use Rattle.vale_entry.specs.declared.entry.Ask.TheVariants.{Shut, Watch, Stat}
 use Rattle.vale_entry.specs.declared.entry.Entry.{Entry}
@@ -32,8 +33,9 @@ own-acts number saves s act rest began first come = task-done s began first (use
 pub frames-put : FramesArePut
 frames-put number saves s name bytes p here named room rest began first come =
     let now = user_with number saves s (PutFrame name bytes ∷ rest) in
-    let has : option_map_or has_slot p.tx false ≡ true = sym (ap (λ (o : Option OwnPort). option_map_or has_slot (option_and_then (ring_on Tx) o) false) (by-id s.own name p here.side.sound named)) ∙ room in
-    let none : option_and_then (put_call s.own) (port_with_name s.own name) ≡ None = ap (option_and_then (put_call s.own)) named ∙ no-room-call s.own p p.tx has in
+    let has : option_map_or (has_slots (slots_of_bytes bytes)) p.tx false ≡ true =
+    sym (ap (λ (o : Option OwnPort). option_map_or (has_slots (slots_of_bytes bytes)) (option_and_then (ring_on Tx) o) false) (by-id s.own name p here.side.sound named)) ∙ room in
+    let none : option_and_then (put_call s.own bytes) (port_with_name s.own name) ≡ None = ap (option_and_then (put_call s.own bytes)) named ∙ no-room-call s.own bytes p p.tx has in
     let put : change_found (λ (id : ℕ). with_frame id bytes) s.own (port_with_name s.own name) ≡ with_frame p.id.0 bytes s.own = ap (change_found (λ (id : ℕ). with_frame id bytes) s.own) named in
     subst (λ (o : OwnState). HasCome began first (record s { own = o }) (user_with number saves (record s { own = o }) rest)) put
     (task-done s began first now (PutFrame name bytes) rest come refl none)
@@ -59,7 +61,7 @@ tasks-pass number saves s name Arrive is none rest = absurd cc
 tasks-pass number saves s name (OpenPort n tx rx extra) is none rest = absurd cc
 tasks-pass number saves s name (PutFrame n bytes) is none rest =
     let gone = none-at s.own n name is none in
-    pass number saves s (PutFrame n bytes) rest (ap (option_and_then (put_call s.own)) gone)
+    pass number saves s (PutFrame n bytes) rest (ap (option_and_then (put_call s.own bytes)) gone)
     (ap (λ (found : Option OwnPort). record (user_with number saves s (PutFrame n bytes ∷ rest)) { own = change_found (λ (id : ℕ). with_frame id bytes) s.own found }) gone)
 tasks-pass number saves s name (SendFrames n) is none rest = pass number saves s (SendFrames n) rest (ap (option_and_then (send_call s.own)) (none-at s.own n name is none)) refl
 tasks-pass number saves s name (TakeFrames n) is none rest = pass number saves s (TakeFrames n) rest (ap (option_map (rx_call s.own)) (none-at s.own n name is none)) refl

@@ -62,6 +62,9 @@ module _ (records : List ℕ → List (List ℕ)) (p q : PlayerState) (act arm :
   pub does-as : OnOk r (DoesLine p q (tasks_of records arm)) → OnOk r (DoesLine p q (tasks_of records act))
   does-as done = subst (λ (a : Act). OnOk r (DoesLine p q (tasks_of records a))) (sym is) done
 
+  pub stops-as : IfErr r (Stops p q (tasks_of records arm)) → IfErr r (Stops p q (tasks_of records act))
+  stops-as stops = subst (λ (a : Act). IfErr r (Stops p q (tasks_of records a))) (sym is) stops
+
   pub done-as : IsDone p q (tasks_of records arm) r → IsDone p q (tasks_of records act) r
   done-as done = subst (λ (a : Act). IsDone p q (tasks_of records a) r) (sym is) done
 

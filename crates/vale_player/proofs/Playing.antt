@@ -1,10 +1,12 @@
 -- The tasks of a line that puts frames, one frame after another.
-use Rattle.std.proofs.Common.{ℕ, zero, suc, ◌≡◌, ◌≤◌, ◌<◌, ◌+◌, ◌-◌, Bool, true, false, cond, List, [], ◌∷◌, ◌++◌, length, map, drop, get_or, replicate, Some, None, IfSome, refl, sym, ◌∙◌, ap, subst, arith}
+use Rattle.std.proofs.Common.{ℕ, zero, suc, ◌≡◌, ◌≤◌, ◌<◌, ◌+◌, ◌-◌, Bool, true, false, cond, List, [], ◌∷◌, ◌++◌, length, map, drop, get_or, replicate, Some, None, IfSome, refl, sym, ◌∙◌, ap, subst, arith, le_refl}
 use Rattle.std.specs.Prelude.{filter, ◌==◌}
 use Rattle.std.proofs.lemmas.Bool.{le-leb, lt-leb, eq-eqb, ne_eqb}
 use Rattle.std.proofs.lemmas.List.{at_drop_more, at_drop_all}
+use Rattle.nm_types.specs.Limits.{buffer_bytes, most_frame_bytes}
+use Rattle.nm_types.specs.Names.{is_pipe_name}
 use Rattle.pcap_io.specs.declared.record.Record.{Record}
-use Rattle.vale_replay.specs.Tasks.{Task, PutFrame, SendFrames, played_before_sync, fits_a_buffer, lines_left}
+use Rattle.vale_replay.specs.Tasks.{Task, PutFrame, SendFrames, played_before_sync, fits_to_play, most_to_play, lines_left}
 use Rattle.vale_captures.specs.Inputs.{captured}
 use Rattle.nm_types.specs.declared.fault.StepFault.{StepFault}
 use Rattle.nm_user.specs.Sessions.{IsThere}
@@ -75,23 +77,23 @@ module _ (name : List ℕ) (batch : ℕ) where
   pub behind-none : (left : ℕ) (frames : List (List ℕ)) → HasNoEnd (behind_put left frames)
   behind-none left frames = either-none (left == 1) (played-from batch frames) (played-from (left - 1) frames) (played-none batch frames) (played-none (left - 1) frames)
 
-  -- a record that fits a buffer is put, and one that does not is passed over
-  pub plays-short : (left : ℕ) (bytes : List ℕ) (frames : List (List ℕ)) → length bytes ≤ 2048
-      → playing name batch left (bytes ∷ frames) ≡ PutFrame name bytes ∷ behind_put left (filter fits_a_buffer frames)
+  -- a record that is short enough is put, and a longer one is passed over
+  pub plays-short : (left : ℕ) (bytes : List ℕ) (frames : List (List ℕ)) → length bytes ≤ most_to_play name
+      → playing name batch left (bytes ∷ frames) ≡ PutFrame name bytes ∷ behind_put left (filter (fits_to_play name) frames)
   plays-short left bytes frames short =
-      ap (λ (b : Bool). played-from left (cond b (bytes ∷ filter fits_a_buffer frames) (filter fits_a_buffer frames))) (le-leb (length bytes) 2048 short)
+      ap (λ (b : Bool). played-from left (cond b (bytes ∷ filter (fits_to_play name) frames) (filter (fits_to_play name) frames))) (le-leb (length bytes) (most_to_play name) short)
       ∙ put-out bytes (left == 1) (SendFrames name ∷ playing name batch batch frames) (playing name batch (left - 1) frames)
 
-  pub plays-long : (left : ℕ) (bytes : List ℕ) (frames : List (List ℕ)) → 2048 < length bytes → playing name batch left (bytes ∷ frames) ≡ playing name batch left frames
+  pub plays-long : (left : ℕ) (bytes : List ℕ) (frames : List (List ℕ)) → most_to_play name < length bytes → playing name batch left (bytes ∷ frames) ≡ playing name batch left frames
   plays-long left bytes frames long =
-      ap (λ (b : Bool). played-from left (cond b (bytes ∷ filter fits_a_buffer frames) (filter fits_a_buffer frames))) (lt-leb (length bytes) 2048 long)
+      ap (λ (b : Bool). played-from left (cond b (bytes ∷ filter (fits_to_play name) frames) (filter (fits_to_play name) frames))) (lt-leb (length bytes) (most_to_play name) long)
 
   -- behind the last one before a sync that sync comes
-  pub behind-last : (left : ℕ) (frames : List (List ℕ)) → left ≡ 1 → behind_put left (filter fits_a_buffer frames) ≡ SendFrames name ∷ playing name batch batch frames
+  pub behind-last : (left : ℕ) (frames : List (List ℕ)) → left ≡ 1 → behind_put left (filter (fits_to_play name) frames) ≡ SendFrames name ∷ playing name batch batch frames
   behind-last left frames last =
       ap (λ (b : Bool). cond b (SendFrames name ∷ playing name batch batch frames) (playing name batch (left - 1) frames)) (eq-eqb left 1 last)
 
-  pub behind-more : (left : ℕ) (frames : List (List ℕ)) → (left ≡ 1 → ⊥) → behind_put left (filter fits_a_buffer frames) ≡ playing name batch (left - 1) frames
+  pub behind-more : (left : ℕ) (frames : List (List ℕ)) → (left ≡ 1 → ⊥) → behind_put left (filter (fits_to_play name) frames) ≡ playing name batch (left - 1) frames
   behind-more left frames more =
       ap (λ (b : Bool). cond b (SendFrames name ∷ playing name batch batch frames) (playing name batch (left - 1) frames)) (ne_eqb left 1 more)
 
@@ -102,14 +104,28 @@ module _ (name : List ℕ) (batch : ℕ) where
   pub plays-all : (left : ℕ) → left ≡ batch → playing name batch left [] ≡ []
   plays-all left all = ap (λ (b : Bool). cond b [] (SendFrames name ∷ [])) (eq-eqb left batch all)
 
--- ---- a record that fits a buffer is put
+-- what a line may play at the most is found once, before its first frame
+pub short-enough : (name : List ℕ) (most len : ℕ) → most ≡ most_to_play name → len ≤ most → len ≤ most_to_play name
+short-enough name most len is short = subst (λ (n : ℕ). len ≤ n) is short
 
-module _ (p : PlayerState) (name : List ℕ) (batch left : ℕ) (bytes : List ℕ) (frames : List (List ℕ)) (short : length bytes ≤ 2048) (q : PlayerState) where
+pub too-long : (name : List ℕ) (most len : ℕ) → most ≡ most_to_play name → most < len → most_to_play name < len
+too-long name most len is long = subst (λ (n : ℕ). n < len) is long
+
+pub most-fits : (name : List ℕ) → most_to_play name ≤ most_frame_bytes
+most-fits name = by (is_pipe_name name)
+  where
+    by : (b : Bool) → cond b buffer_bytes most_frame_bytes ≤ most_frame_bytes
+    by true = omega arith
+    by false = le_refl most_frame_bytes
+
+-- ---- a record that is short enough is put
+
+module _ (p : PlayerState) (name : List ℕ) (batch left : ℕ) (bytes : List ℕ) (frames : List (List ℕ)) (short : length bytes ≤ most_to_play name) (q : PlayerState) where
   abbrev whole : List Task
   whole = playing name batch left (bytes ∷ frames)
 
   abbrev more : List Task
-  more = behind_put name batch left (filter fits_a_buffer frames)
+  more = behind_put name batch left (filter (fits_to_play name) frames)
 
   puts-first : Leads p p whole (PutFrame name bytes ∷ more)
   puts-first = leads-as p p whole whole (PutFrame name bytes ∷ more) (plays-short name batch left bytes frames short) (leads-self p whole)
@@ -119,7 +135,7 @@ module _ (p : PlayerState) (name : List ℕ) (batch left : ℕ) (bytes : List �
 
   module _ (goes : Bool) (does : DoesOrEnds p q (PutFrame name bytes ∷ []) goes) where
     pub put-ends : goes ≡ false → DoesLine p q whole
-    put-ends off = leads-ends p p q whole (PutFrame name bytes) more puts-first (behind-none name batch left (filter fits_a_buffer frames)) (subst (DoesOrEnds p q (PutFrame name bytes ∷ [])) off does)
+    put-ends off = leads-ends p p q whole (PutFrame name bytes) more puts-first (behind-none name batch left (filter (fits_to_play name) frames)) (subst (DoesOrEnds p q (PutFrame name bytes ∷ [])) off does)
 
     put-done : goes ≡ true → Leads p q whole more
     put-done on = leads-does p p q whole (PutFrame name bytes) more puts-first (subst (DoesOrEnds p q (PutFrame name bytes ∷ [])) on does)
@@ -136,7 +152,7 @@ pub sent-plays : (p q r : PlayerState) (name : List ℕ) (batch : ℕ) (whole : 
     → (goes : Bool) → DoesOrEnds q r (SendFrames name ∷ []) goes → PlaysOn p r whole name batch frames (cond goes (Some batch) None)
 sent-plays p q r name batch whole frames leads true does = leads-does p q r whole (SendFrames name) (playing name batch batch frames) leads does
 sent-plays p q r name batch whole frames leads false ends =
-    leads-ends p q r whole (SendFrames name) (playing name batch batch frames) leads (played-none name batch batch (filter fits_a_buffer frames)) ends
+    leads-ends p q r whole (SendFrames name) (playing name batch batch frames) leads (played-none name batch batch (filter (fits_to_play name) frames)) ends
 
 pub batch-some : (goes : Bool) (batch : ℕ) → 1 ≤ batch → IfSome (cond goes (Some batch) None) (λ n. 1 ≤ n)
 batch-some true batch some = some

@@ -1,17 +1,19 @@
 -- Copies of one frame that a line puts, where there is room for them and where there is no ring.
 use Rattle.std.proofs.Common.{ℕ, zero, suc, ◌+◌, ◌-◌, ◌≤◌, ◌≡◌, Bool, true, false, cond, List, [], ◌∷◌, ◌++◌, replicate, Option, Some, None, option_map, refl, sym, ◌∙◌, ap, subst, arith, append_assoc}
 use Rattle.std.specs.Prelude.{◌==◌, filter, option_and_then}
+use Rattle.std.specs.Option.{option_map_or}
 use Rattle.nm_types.specs.declared.id.PortId.{PortId}
 use Rattle.nm_types.specs.declared.id.Side.TheVariants.{Tx}
 use Rattle.nm_types.specs.OwnPorts.{OwnRing, OwnPort, OwnState, port_with_name, ring_on}
-use Rattle.nm_types.specs.OwnEdits.{has_room, with_frame, with_frame_on}
+use Rattle.nm_types.specs.OwnEdits.{has_slots, has_room, with_frame, with_parts}
+use Rattle.nm_types.specs.Parts.{parts_of, slots_of_bytes}
 use Rattle.vale_own.specs.Side.{IsSound}
 use Rattle.nm_user.specs.Sessions.{SessionState, IsThere}
 use Rattle.nm_own.specs.Copies.{with_copies, FindRoom, AreCopies}
 use Rattle.nm_user.proofs.Written.{there-edited}
 use Rattle.nm_user.proofs.CopiesPut.{copies-keep}
 use Rattle.vale_replay.specs.Edits.{change_found}
-use Rattle.vale_replay.specs.Tasks.{Task, PutFrame, SendFrames, fits_a_buffer, played_before_sync, played}
+use Rattle.vale_replay.specs.Tasks.{Task, PutFrame, SendFrames, fits_to_play, played_before_sync, played}
 use Rattle.vale_replay.proofs.TurnSides.{by-id}
 use Rattle.vale_player.specs.Players.{PlayerState, Does, DoesLine, machine_of}
 use Rattle.vale_player.specs.Users.{HasCome}
@@ -56,13 +58,13 @@ module _ (p : PlayerState) (name bytes : List ℕ) (port : PortId) (here : IsThe
   pub copies-named : (count : ℕ) → sender_named (behind_copies count).session.own name ≡ Some port
   copies-named count = copies-names count port.0 bytes p.session.own name ∙ named
 
-  one-put : (count : ℕ) → has_room (with_copies count port.0 bytes p.session.own) port.0 ≡ true → Does (behind_copies count) (behind_copies (suc count)) (task ∷ [])
+  one-put : (count : ℕ) → has_room (with_copies count port.0 bytes p.session.own) port.0 bytes ≡ true → Does (behind_copies count) (behind_copies (suc count)) (task ∷ [])
   one-put count room =
       let q = behind_copies count in
       let sound = (copies-there count).side.sound in
       let at = sender-found q.session.own name port sound (copies-named count) in
       subst (λ (x : PlayerState). Does q x (task ∷ [])) (sym (put-at q (behind_copies (suc count)).session name bytes port sound (copies-named count) refl))
-      (puts q q name bytes (room-needs q name bytes sound (room-by q.session.own name port at.of ∙ room)))
+      (puts q q name bytes (room-needs q name bytes sound (room-by q.session.own name port at.of bytes ∙ room)))
 
   copies-lead : (count more : ℕ) → FindRoom count port.0 bytes p.session.own → Leads p (behind_copies count) (replicate (count + more) task) (replicate more task)
   copies-lead zero more room =
@@ -80,7 +82,7 @@ module _ (p : PlayerState) (name bytes : List ℕ) (port : PortId) (here : IsThe
       let all : count + 0 ≡ count = omega arith in
       subst (λ (n : ℕ). Does p (behind_copies count) (replicate n task)) all (copies-lead count 0 room)
 
-pub some-copies : (wanted count id : ℕ) (bytes : List ℕ) (s : OwnState) → AreCopies wanted count id bytes s → has_room s id ≡ true → 1 ≤ wanted → 1 ≤ count
+pub some-copies : (wanted count id : ℕ) (bytes : List ℕ) (s : OwnState) → AreCopies wanted count id bytes s → has_room s id bytes ≡ true → 1 ≤ wanted → 1 ≤ count
 some-copies wanted zero id bytes s copies room some = absurd (let full = copies.full (omega (arith, some)) in let bad : true ≡ false = sym room ∙ full in cc)
 some-copies wanted (suc count) id bytes s copies room some = omega arith
 
@@ -123,7 +125,8 @@ module _ (p : PlayerState) (name : List ℕ) (sound : IsSound p.session.own) (no
       by : (found : Option OwnPort) → port_with_name own name ≡ found → option_and_then id_with_ring found ≡ None → change_found (λ (id : ℕ). with_frame id bytes) own found ≡ own
       by None named e = refl
       by (Some q) named e =
-          ap (with_frame_on q.id.0 bytes own) (ap (option_and_then (ring_on Tx)) (by-id own name q sound named) ∙ no-ring q q.tx e)
+          ap (λ (o : Option OwnRing). cond (option_map_or (has_slots (slots_of_bytes bytes)) o false) (with_parts q.id.0 (parts_of bytes) own) own)
+          (ap (option_and_then (ring_on Tx)) (by-id own name q sound named) ∙ no-ring q q.tx e)
 
   passes-put : (bytes : List ℕ) → Does p p (PutFrame name bytes ∷ [])
   passes-put bytes = subst (λ (x : PlayerState). Does p x (PutFrame name bytes ∷ [])) (sym (put-nowhere bytes)) (puts p p name bytes (ringless-needs p name bytes none))
@@ -157,4 +160,4 @@ module _ (p : PlayerState) (name : List ℕ) (sound : IsSound p.session.own) (no
       by false first second = passes-more (PutFrame name bytes) other (passes-put bytes) second
 
   pub passes-played : (batch : ℕ) (frames : List (List ℕ)) → DoesLine p p (played name batch frames)
-  passes-played batch frames = does-line p p (played name batch frames) (passes-frames batch batch (filter fits_a_buffer frames))
+  passes-played batch frames = does-line p p (played name batch frames) (passes-frames batch batch (filter (fits_to_play name) frames))

@@ -20,13 +20,13 @@ use Rattle.vale_fabric.specs.declared.kept.Fixed.{Fixed}
 use Rattle.vale_fabric.specs.Fabrics.{Knowing, Refuses, entry_by}
 use Rattle.nm_user.specs.Sessions.{SessionState, IsThere}
 use Rattle.nm_user.specs.Calls.{IsRefused}
-use Rattle.nm_user.specs.Saving.{bytes_of_frame, frames_before_tail, read_of}
+use Rattle.nm_user.specs.Saving.{bytes_of_frame, frames_from, read_of}
 use Rattle.nm_user.specs.PortReads.{IsPortOf, ReadsNot}
 use Rattle.nm_user.proofs.SavingRead.{received-are-read}
 use Rattle.nm_user.proofs.SavingHistory.{reads-none, told-stays, told-none}
 use Rattle.nm_user.proofs.SavingSights.{adds-one, adds-sync, sight-stays, receive-grows}
 use Rattle.vale_replay.specs.Saved.{SavedFrame, saved_from, saved_in, saved_frames}
-use Rattle.vale_player.specs.Saving.{saved_bytes, OthersSaveNothing, SavedStay, SavedBegin, SavedGrow, RingIsSaved, CallsSaveNothing, SyncsSaveNothing, RefusedSaveNothing}
+use Rattle.vale_player.specs.Saving.{OthersSaveNothing, SavedStay, SavedBegin, SavedGrow, RingIsSaved, CallsSaveNothing, SyncsSaveNothing, RefusedSaveNothing}
 
 -- where nothing is read nothing is saved
 pub silent : (id : ℕ) (w : World) (e : Entry) → read_by id w e.ask e.reply ≡ [] → saved_in id w e ≡ []
@@ -91,14 +91,21 @@ saved-grow s t id received there after is =
     grown ∙ (ap (λ (xs : List SavedFrame). saved_frames pool s.knows.seen id ++ xs) saved
     ∙ ap (λ (f : Fixed). saved_frames f.pool s.knows.seen id ++ saved_from n 0 (read_of pool t.knows.seen id n)) sync.fixed)
 
+-- what is saved of frames is told by their bytes
+abbrev saved_bytes : ℕ → ℕ → List (List ℕ) → List SavedFrame
+saved_bytes number place [] = []
+saved_bytes number place (bytes ∷ rest) = record { seconds = number; fraction = place; bytes = bytes } ∷ saved_bytes number (place + 1) rest
+
 bytes-saved : (number place : ℕ) (frames : List Frame) → saved_from number place frames ≡ saved_bytes number place (map bytes_of_frame frames)
 bytes-saved number place [] = refl
 bytes-saved number place (frame ∷ frames) = ap (λ (xs : List SavedFrame). let made : SavedFrame = record { seconds = number; fraction = place; bytes = frame.bytes } in made ∷ xs) (bytes-saved number (place + 1) frames)
 
+same-saved : (number : ℕ) (frames others : List Frame) → map bytes_of_frame frames ≡ map bytes_of_frame others → saved_from number 0 frames ≡ saved_from number 0 others
+same-saved number frames others same = bytes-saved number 0 frames ∙ (ap (saved_bytes number 0) same ∙ sym (bytes-saved number 0 others))
+
 pub ring-is-saved : RingIsSaved
 ring-is-saved s t id received there after is =
-    let number = received.entry in
-    let frames = read_of t.fixed.pool t.knows.seen id number in
-    let bytes : saved_from number 0 frames ≡ saved_bytes number 0 (frames_before_tail t.own id received.gave) =
-    bytes-saved number 0 frames ∙ ap (saved_bytes number 0) (sym (received-are-read s t id received after is)) in
-    saved-grow s t id received there after is ∙ ap (λ (xs : List SavedFrame). saved_frames s.fixed.pool s.knows.seen id ++ xs) bytes
+    let frames = read_of t.fixed.pool t.knows.seen id received.entry in
+    let found = frames_from t.own id is.at.port.rx.ring.tail in
+    saved-grow s t id received there after is
+    ∙ ap (λ (xs : List SavedFrame). saved_frames s.fixed.pool s.knows.seen id ++ xs) (same-saved received.entry frames found (sym (received-are-read s t id received there after is)))

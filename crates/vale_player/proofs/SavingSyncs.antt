@@ -48,14 +48,14 @@ transmit-reads id None true port items frames = refl
 transmit-reads id None false port items frames = refl
 
 pub transmits : (id : ℕ) (own : OwnState) (p : OwnPort) (r : OwnRing) → reads_at id (tx_call own p r) ≡ false
-transmits id own p r = transmit-reads id (refusal_in Tx own r) (is_pipe_name p.name) p.id _ _
+transmits id own p r = transmit-reads id (refusal_in Tx own p r) (is_pipe_name p.name) p.id _ _
 
 -- a receive sync that no check refuses is never answered that the other end is gone
 abbrev is-gave : Reply → Bool
 is-gave (replies.Gave count to) = true
 is-gave _ = false
 
-never-gone : (now : Standing) (own : OwnState) (p : OwnPort) (session : ℕ) → refusal_in Rx own p.rx ≡ None → option_map session_and_reply (step now (rx_call own p)) ≡ Some (session, replies.PeerGone) → ⊥
+never-gone : (now : Standing) (own : OwnState) (p : OwnPort) (session : ℕ) → refusal_in Rx own p p.rx ≡ None → option_map session_and_reply (step now (rx_call own p)) ≡ Some (session, replies.PeerGone) → ⊥
 never-gone now own p session none e =
     let pipe = is_pipe_name p.name in
     let call : rx_call own p ≡ read_ask pipe p.id (back_in p) =
@@ -87,7 +87,7 @@ other-receives-save-nothing s t id other received there after k apart is =
     let p = is.at.port in
     let at : p.id.0 ≡ other = eqb-true p.id.0 other (place-of (λ (q : OwnPort). q.id.0 == other) s.own.ports p is.at.found).passes in
     let elsewhere : (p.id.0 == id) ≡ false = ne_eqb p.id.0 id (λ same. apart (sym at ∙ same)) in
-    syncs-save-nothing s t id _ _ is.shares there after k is.synced (receive-elsewhere id (refusal_in Rx s.own p.rx) (is_pipe_name p.name) p.id (back_in p) elsewhere)
+    syncs-save-nothing s t id _ _ is.shares there after k is.synced (receive-elsewhere id (refusal_in Rx s.own p p.rx) (is_pipe_name p.name) p.id (back_in p) elsewhere)
 
 pub transmits-save-nothing : TransmitsSaveNothing
 transmits-save-nothing at sent s t id there after k is =
@@ -97,15 +97,15 @@ transmits-save-nothing at sent s t id there after k is =
 pub failed-receives-save-nothing : FailedReceivesSaveNothing
 failed-receives-save-nothing s t id at fault there k is =
     let p = is.at.port in
-    sync-not s t id (rx_call s.own p) (refusal_in Rx s.own p.rx) there k
+    sync-not s t id (rx_call s.own p) (refusal_in Rx s.own p p.rx) there k
     (λ none made.
     let m = made.answers.makes in
     absurd (never-gone (standing_of s.fixed.pool (earlier t.knows.seen)) s.own p m.session none
     (subst (λ (r : Reply). option_map session_and_reply (step (standing_of s.fixed.pool (earlier t.knows.seen)) (rx_call s.own p)) ≡ Some (m.session, r)) made.answers.reply_is m.steps)))
-    (λ f e. receive-reset id (refusal_in Rx s.own p.rx) p.id _ f e) fault is.not
+    (λ f e. receive-reset id (refusal_in Rx s.own p p.rx) p.id _ f e) fault is.not
 
 pub failed-transmits-save-nothing : FailedTransmitsSaveNothing
 failed-transmits-save-nothing s t id at fault there k is =
     let ask = tx_call s.own is.tx.port is.tx.ring in
     let none = transmits id s.own is.tx.port is.tx.ring in
-    sync-not s t id ask (refusal_in Tx s.own is.tx.ring) there k (λ passes made. calls-save-nothing s t id ask replies.PeerGone there k made none) (λ f e. none) fault is.not
+    sync-not s t id ask (refusal_in Tx s.own is.tx.port is.tx.ring) there k (λ passes made. calls-save-nothing s t id ask replies.PeerGone there k made none) (λ f e. none) fault is.not

@@ -1,6 +1,6 @@
 -- A name goes on naming the port that it names: frames that are put and transmit syncs leave names, ids
 -- and rings where they are.
-use Rattle.std.proofs.Common.{ℕ, zero, suc, ◌++◌, length, drop, ◌≡◌, Bool, true, false, cond, List, [], ◌∷◌, map, Option, Some, None, option_map, refl, sym, ◌∙◌, ap, ap₂}
+use Rattle.std.proofs.Common.{ℕ, zero, suc, ◌++◌, length, drop, ◌≡◌, Bool, true, false, not, cond, List, [], ◌∷◌, map, Option, Some, None, option_map, refl, sym, ◌∙◌, ap, ap₂}
 use Rattle.std.specs.Prelude.{find, fold, bytes_eq, ◌==◌, option_and_then}
 use Rattle.nm_types.specs.declared.id.PortId.{PortId}
 use Rattle.nm_types.specs.declared.id.Side.{Side}
@@ -11,8 +11,9 @@ use Rattle.nm_types.specs.Names.{is_pipe_name}
 use Rattle.nm_types.specs.Frames.{Frame}
 use Rattle.nm_types.specs.Slots.{Pushed, pushed_frames}
 use Rattle.nm_types.specs.SyncChecks.{contains_index}
-use Rattle.nm_types.specs.OwnPorts.{OwnRing, OwnPort, OwnState, Arrival, bytes_at, with_bytes, port_if, with_ring, with_ring_on, ring_at, slot_in, named_of, pushed_in, pushed_on, refusal_in}
-use Rattle.nm_types.specs.OwnEdits.{has_slot, ring_with_frame, with_written, with_frame_on, with_frame}
+use Rattle.nm_types.specs.OwnPorts.{OwnRing, OwnPort, OwnState, Arrival, bytes_at, with_bytes, port_if, with_ring_on, ring_at, slot_in, named_of, pushed_in, pushed_on, refusal_in}
+use Rattle.nm_types.specs.OwnEdits.{has_room, ring_with_part, with_written, with_part_on, with_part, with_parts, with_frame}
+use Rattle.nm_types.specs.Parts.{parts_of}
 use Rattle.nm_types.specs.OwnSyncs.{ring_swapped, port_swapped, buffer_on, after_slot, ring_after_send, ring_after_put, ring_after_reset, buffers_of_arrivals}
 use Rattle.vale_entry.specs.declared.entry.Ask.TheVariants.{Send, Put}
 use Rattle.vale_entry.specs.declared.entry.Item.{Item}
@@ -91,18 +92,27 @@ exchange-faces side id (x ∷ pushed) ports =
 
 -- ---- a frame that is put
 
-frame-faces : (id : ℕ) (bytes : List ℕ) (s : OwnState) → faces (with_frame id bytes s).ports ≡ faces s.ports
-frame-faces id bytes s = on (ring_at Tx s id)
+part-faces : (id : ℕ) (more : Bool) (part : List ℕ) (s : OwnState) → faces (with_part id more part s).ports ≡ faces s.ports
+part-faces id more part s = on (ring_at Tx s id)
   where
-    at : (r : OwnRing) (b : Bool) → faces (cond b (with_ring Tx id (ring_with_frame bytes) (with_written (slot_in Tx r r.ring.head).buf_idx bytes s)) s).ports ≡ faces s.ports
-    at r true =
-        let idx = (slot_in Tx r r.ring.head).buf_idx in
-        ring-faces id (ring_with_frame bytes) (with_written idx bytes s).ports ∙ ap faces (same-ports (contains_index (named_of s) idx) (with_bytes idx (bytes ++ drop (length bytes) (bytes_at s idx)) s) s refl)
-    at r false = refl
-
-    on : (found : Option OwnRing) → faces (with_frame_on id bytes s found).ports ≡ faces s.ports
+    on : (found : Option OwnRing) → faces (with_part_on id more part s found).ports ≡ faces s.ports
     on None = refl
-    on (Some r) = at r (has_slot r)
+    on (Some r) =
+        let idx = (slot_in Tx r r.ring.head).buf_idx in
+        ring-faces id (ring_with_part more part) (with_written idx part s).ports ∙ ap faces (same-ports (contains_index (named_of s) idx) (with_bytes idx (part ++ drop (length part) (bytes_at s idx)) s) s refl)
+
+parts-faces : (id : ℕ) (parts : List (List ℕ)) (s : OwnState) → faces (with_parts id parts s).ports ≡ faces s.ports
+parts-faces id [] s = refl
+parts-faces id (part ∷ parts) s =
+    let more = not (length parts == 0) in
+    parts-faces id parts (with_part id more part s) ∙ part-faces id more part s
+
+frame-faces : (id : ℕ) (bytes : List ℕ) (s : OwnState) → faces (with_frame id bytes s).ports ≡ faces s.ports
+frame-faces id bytes s = by (has_room s id bytes)
+  where
+    by : (b : Bool) → faces (cond b (with_parts id (parts_of bytes) s) s).ports ≡ faces s.ports
+    by true = parts-faces id (parts_of bytes) s
+    by false = refl
 
 pub frame-names : (id : ℕ) (bytes : List ℕ) (s : OwnState) (name : List ℕ) → sender_named (with_frame id bytes s) name ≡ sender_named s name
 frame-names id bytes s name = same-faces name s (with_frame id bytes s) (frame-faces id bytes s)
@@ -128,7 +138,7 @@ tx-names : (number : ℕ) (s : OwnState) (p : OwnPort) (r : OwnRing) (reply : Re
     → sender_named t name ≡ sender_named s name
 tx-names number s p r reply came t name made =
     same-faces name s t (ap (λ (o : OwnState). faces o.ports) made
-    ∙ call-faces number p.id reply came s (refusal_in Tx s r) (is_pipe_name p.name) (offered_items s r) (pushed_frames (bytes_at s) (pushed_in Tx r)))
+    ∙ call-faces number p.id reply came s (refusal_in Tx s p r) (is_pipe_name p.name) (offered_items s r) (pushed_frames (bytes_at s) (pushed_in Tx r)))
 
 pub ends-names : (s t : SessionState) (id : ℕ) (end : SyncEnd) (name : List ℕ) → EndsTx s t id end → sender_named t.own name ≡ sender_named s.own name
 ends-names s t id ends.Passed name e = tx-names e.came.synced.number s.own e.tx.port e.tx.ring e.came.reply _ t.own name e.came.synced.own

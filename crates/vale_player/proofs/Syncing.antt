@@ -114,12 +114,12 @@ module _ (s t : SessionState) (id : ℕ) where
   tx-through : (own : OwnState) (p : OwnPort) (r : OwnRing) (reply : Reply) (shares : Shares) → (reply ≡ replies.Made → ⊥) → is_peer_gone reply ≡ false
       → Synced s t (tx_call own p r) reply shares → GoesThrough s t (tx_call own p r)
   tx-through own p r reply shares not there synced =
-      goes-through p.id Tx (is_pipe_name p.name) (Put p.id (offered_items own r)) (Send p.id (pushed_frames (bytes_at own) (pushed_in Tx r))) refl refl s t (refusal_in Tx own r) reply shares not there synced
+      goes-through p.id Tx (is_pipe_name p.name) (Put p.id (offered_items own r)) (Send p.id (pushed_frames (bytes_at own) (pushed_in Tx r))) refl refl s t (refusal_in Tx own p r) reply shares not there synced
 
   rx-through : (own : OwnState) (p : OwnPort) (reply : Reply) (shares : Shares) → (reply ≡ replies.Made → ⊥) → is_peer_gone reply ≡ false
       → Synced s t (rx_call own p) reply shares → GoesThrough s t (rx_call own p)
   rx-through own p reply shares not there synced =
-      goes-through p.id Rx (is_pipe_name p.name) (Get p.id (back_in p)) (Sync p.id (back_in p)) refl refl s t (refusal_in Rx own p.rx) reply shares not there synced
+      goes-through p.id Rx (is_pipe_name p.name) (Get p.id (back_in p)) (Sync p.id (back_in p)) refl refl s t (refusal_in Rx own p p.rx) reply shares not there synced
 
   pub sent-ends : (sent : Sent) → IsTransmitted s t id sent → EndsTx s t id ends.Passed
   sent-ends sent (inl is) = record { tx = is.tx; came = tx-through s.own is.tx.port is.tx.ring (replies.Offered sent.short sent.lone is.to) (shares_in sent) (made-not sent.short sent.lone is.to) refl is.synced }
@@ -128,7 +128,7 @@ module _ (s t : SessionState) (id : ℕ) where
   -- of one that failed
   pub tx-ends : (fault : SyncFault) → TransmitsNot s t id fault → IfOk (sync_end_of fault) (EndsTx s t id)
   tx-ends fault not = by (sync_end_of fault) (came-of not.tx.port.id Tx (is_pipe_name not.tx.port.name) (Put not.tx.port.id (offered_items s.own not.tx.ring))
-      (Send not.tx.port.id (pushed_frames (bytes_at s.own) (pushed_in Tx not.tx.ring))) refl refl s t (refusal_in Tx s.own not.tx.ring) fault not.not)
+      (Send not.tx.port.id (pushed_frames (bytes_at s.own) (pushed_in Tx not.tx.ring))) refl refl s t (refusal_in Tx s.own not.tx.port not.tx.ring) fault not.not)
     where
       by : (r : Result SyncEnd StepFault) → IfOk r (CameOf s t (tx_call s.own not.tx.port not.tx.ring)) → IfOk r (EndsTx s t id)
       by (Ok end) came = record { tx = not.tx; came = came }
@@ -136,7 +136,7 @@ module _ (s t : SessionState) (id : ℕ) where
 
   pub tx-none : (fault : SyncFault) → TransmitsNot s t id fault → IfErr (sync_end_of fault) (IsUnsent s t id)
   tx-none fault not = by (sync_end_of fault) (made-none not.tx.port.id Tx (is_pipe_name not.tx.port.name) (Put not.tx.port.id (offered_items s.own not.tx.ring))
-      (Send not.tx.port.id (pushed_frames (bytes_at s.own) (pushed_in Tx not.tx.ring))) refl refl s t (refusal_in Tx s.own not.tx.ring) fault not.not)
+      (Send not.tx.port.id (pushed_frames (bytes_at s.own) (pushed_in Tx not.tx.ring))) refl refl s t (refusal_in Tx s.own not.tx.port not.tx.ring) fault not.not)
     where
       by : (r : Result SyncEnd StepFault) → IfErr r (MadeNone s t (tx_call s.own not.tx.port not.tx.ring)) → IfErr r (IsUnsent s t id)
       by (Ok end) none = tt
@@ -148,14 +148,14 @@ module _ (s t : SessionState) (id : ℕ) where
   got-ends received is = record { at = is.at; came = rx-through s.own is.at.port (replies.Gave received.gave is.to) is.shares (gave-not received.gave is.to) refl is.synced }
 
   pub rx-ends : (fault : SyncFault) → ReceivesNot s t id fault → IfOk (sync_end_of fault) (EndsRx s t id)
-  rx-ends fault not = by (sync_end_of fault) (came-of not.at.port.id Rx (is_pipe_name not.at.port.name) (Get not.at.port.id (back_in not.at.port)) (Sync not.at.port.id (back_in not.at.port)) refl refl s t (refusal_in Rx s.own not.at.port.rx) fault not.not)
+  rx-ends fault not = by (sync_end_of fault) (came-of not.at.port.id Rx (is_pipe_name not.at.port.name) (Get not.at.port.id (back_in not.at.port)) (Sync not.at.port.id (back_in not.at.port)) refl refl s t (refusal_in Rx s.own not.at.port not.at.port.rx) fault not.not)
     where
       by : (r : Result SyncEnd StepFault) → IfOk r (CameOf s t (rx_call s.own not.at.port)) → IfOk r (EndsRx s t id)
       by (Ok end) came = record { at = not.at; came = came }
       by (Err stop) came = tt
 
   pub rx-none : (fault : SyncFault) → ReceivesNot s t id fault → IfErr (sync_end_of fault) (RxMadeNone s t id)
-  rx-none fault not = by (sync_end_of fault) (made-none not.at.port.id Rx (is_pipe_name not.at.port.name) (Get not.at.port.id (back_in not.at.port)) (Sync not.at.port.id (back_in not.at.port)) refl refl s t (refusal_in Rx s.own not.at.port.rx) fault not.not)
+  rx-none fault not = by (sync_end_of fault) (made-none not.at.port.id Rx (is_pipe_name not.at.port.name) (Get not.at.port.id (back_in not.at.port)) (Sync not.at.port.id (back_in not.at.port)) refl refl s t (refusal_in Rx s.own not.at.port not.at.port.rx) fault not.not)
     where
       by : (r : Result SyncEnd StepFault) → IfErr r (MadeNone s t (rx_call s.own not.at.port)) → IfErr r (RxMadeNone s t id)
       by (Ok end) none = tt

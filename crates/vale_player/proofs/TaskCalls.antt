@@ -10,7 +10,8 @@ use Rattle.nm_types.specs.declared.id.Side.TheVariants.{Tx, Rx}
 use Rattle.nm_types.specs.Names.{is_pipe_name}
 use Rattle.nm_types.specs.Slots.{pushed_frames}
 use Rattle.nm_types.specs.OwnPorts.{OwnRing, OwnPort, OwnState, bytes_at, pushed_in, refusal_in, port_with_name, port_with_id}
-use Rattle.nm_types.specs.OwnEdits.{has_slot}
+use Rattle.nm_types.specs.OwnEdits.{has_slots}
+use Rattle.nm_types.specs.Parts.{slots_of_bytes}
 use Rattle.vale_entry.specs.declared.entry.Ask.{Ask}
 use Rattle.vale_entry.specs.declared.entry.Ask.TheVariants.{Open, Send, Sync, Shut, Leave, Put, Get, Watch, Stat}
 use Rattle.vale_entry.specs.World.{open_port}
@@ -59,12 +60,12 @@ reset-at (Some fault) id side b one other front back = record { asker = λ s. re
 
 tx-at : (own : OwnState) (p : OwnPort) (r : OwnRing) → CallAt p.id (tx_call own p r)
 tx-at own p r =
-    reset-at (refusal_in Tx own r) p.id Tx (is_pipe_name p.name) (Put p.id (offered_items own r)) (Send p.id (pushed_frames (bytes_at own) (pushed_in Tx r)))
+    reset-at (refusal_in Tx own p r) p.id Tx (is_pipe_name p.name) (Put p.id (offered_items own r)) (Send p.id (pushed_frames (bytes_at own) (pushed_in Tx r)))
     (record { asker = λ s. refl; plain = record { settles = refl; enters = refl } }) (record { asker = λ s. refl; plain = record { settles = refl; enters = refl } })
 
 rx-at : (own : OwnState) (p : OwnPort) → CallAt p.id (rx_call own p)
 rx-at own p =
-    reset-at (refusal_in Rx own p.rx) p.id Rx (is_pipe_name p.name) (Get p.id (back_in p)) (Sync p.id (back_in p))
+    reset-at (refusal_in Rx own p p.rx) p.id Rx (is_pipe_name p.name) (Get p.id (back_in p)) (Sync p.id (back_in p))
     (record { asker = λ s. refl; plain = record { settles = refl; enters = refl } }) (record { asker = λ s. refl; plain = record { settles = refl; enters = refl } })
 
 -- a call at a port that is found by its name
@@ -87,13 +88,13 @@ module _ (side : OwnState) (session : SessionId) (name : List ℕ) (sound : IsSo
   room-at p r true ask named e = absurd cc
   room-at p r false ask named e = at-port p (tx_call side p r) ask named (tx-at side p r) (same_Some (tx_call side p r) ask e)
 
-  put-ring : (p : OwnPort) (tx : Option OwnRing) (ask : Ask) → port_with_name side name ≡ Some p → option_and_then (room_call side p) tx ≡ Some ask → TaskCall side session ask
-  put-ring p None ask named e = absurd cc
-  put-ring p (Some r) ask named e = room-at p r (has_slot r) ask named e
+  put-ring : (bytes : List ℕ) (p : OwnPort) (tx : Option OwnRing) (ask : Ask) → port_with_name side name ≡ Some p → option_and_then (room_call side bytes p) tx ≡ Some ask → TaskCall side session ask
+  put-ring bytes p None ask named e = absurd cc
+  put-ring bytes p (Some r) ask named e = room-at p r (has_slots (slots_of_bytes bytes) r) ask named e
 
-  put-at : (found : Option OwnPort) (ask : Ask) → port_with_name side name ≡ found → option_and_then (put_call side) found ≡ Some ask → TaskCall side session ask
-  put-at None ask named e = absurd cc
-  put-at (Some p) ask named e = put-ring p p.tx ask named e
+  put-at : (bytes : List ℕ) (found : Option OwnPort) (ask : Ask) → port_with_name side name ≡ found → option_and_then (put_call side bytes) found ≡ Some ask → TaskCall side session ask
+  put-at bytes None ask named e = absurd cc
+  put-at bytes (Some p) ask named e = put-ring bytes p p.tx ask named e
 
   send-ring : (p : OwnPort) (tx : Option OwnRing) (ask : Ask) → port_with_name side name ≡ Some p → option_map (tx_call side p) tx ≡ Some ask → TaskCall side session ask
   send-ring p None ask named e = absurd cc
@@ -117,7 +118,7 @@ task-call user session (Arrive ∷ rest) ask sound is call =
     absurd cc
 task-call user session (OpenPort name tx rx extra ∷ rest) ask sound is call =
     session-of user.own (λ (x : SessionId). Open x name tx rx extra) user.session session ask is call (record { of = inr (inr (record { asker = λ s. refl })); plain = record { settles = refl; enters = refl } })
-task-call user session (PutFrame name bytes ∷ rest) ask sound is call = put-at user.own session name sound (port_with_name user.own name) ask refl call
+task-call user session (PutFrame name bytes ∷ rest) ask sound is call = put-at user.own session name sound bytes (port_with_name user.own name) ask refl call
 task-call user session (SendFrames name ∷ rest) ask sound is call = send-at user.own session name sound (port_with_name user.own name) ask refl call
 task-call user session (TakeFrames name ∷ rest) ask sound is call = mapped-at user.own session name sound (rx_call user.own) (port_with_name user.own name) ask refl call (rx-at user.own)
 task-call user session (ChangeOwn act ∷ rest) ask sound is call = absurd cc

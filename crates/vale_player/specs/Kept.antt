@@ -1,12 +1,16 @@
 -- The frames that are kept of a session's ports while it plays.
-use Rattle.std.specs.Prelude.{ℕ, ◌≡◌, ◌++◌, ◌==◌, if◌then◌else◌, List, [], ◌∷◌, length, map, find, bytes_eq, Option, Some, None, IsSome, IfSome, option_map, Result, Ok, Err, Vec}
-use Rattle.std.specs.List.{AllByRecursion, list_any}
+use Rattle.std.specs.Prelude.{ℕ, true, ◌≡◌, ◌++◌, ◌==◌, if◌then◌else◌, List, [], ◌∷◌, length, map, find, bytes_eq, Option, Some, None, IsSome, IfSome, option_map, Result, Ok, Err, Vec}
+use Rattle.std.specs.List.{AllByRecursion, list_all, list_any}
+use Rattle.std.specs.Option.{option_map_or}
 use Rattle.std.specs.declared.alloc.Global.{Global}
 use Rattle.nm_types.specs.declared.fault.OpenFault.{OpenFault}
 use Rattle.nm_types.specs.declared.fault.StepFault.{StepFault}
 use Rattle.nm_types.specs.declared.fault.SyncFault.{SyncFault}
 use Rattle.nm_types.specs.declared.id.PortId.{PortId}
-use Rattle.nm_types.specs.OwnPorts.{OwnState}
+use Rattle.nm_types.specs.declared.id.Side.TheVariants.{Rx}
+use Rattle.nm_types.specs.Frames.{Frame}
+use Rattle.nm_types.specs.Sendable.{is_frame}
+use Rattle.nm_types.specs.OwnPorts.{OwnRing, OwnState, ring_at}
 use Rattle.pcap_io.specs.declared.record.Record.{Record}
 use Rattle.vale_entry.specs.declared.entry.Entry.{Entry}
 use Rattle.vale_entry.specs.Legal.{IsLegal}
@@ -15,12 +19,12 @@ use Rattle.nm_user.specs.declared.receiving.Received.{Received}
 use Rattle.nm_user.specs.Sessions.{SessionState, IsThere}
 use Rattle.nm_user.specs.PortReads.{IsPortOf}
 use Rattle.nm_user.specs.Receives.{IsReceived, ReceivesNot}
-use Rattle.nm_user.specs.Saving.{frames_before_tail}
+use Rattle.nm_user.specs.Saving.{frames_from}
 use Rattle.vale_replay.specs.Machine.{Save}
-use Rattle.vale_replay.specs.Saved.{SavedFrame, saved_frames}
+use Rattle.vale_replay.specs.Saved.{SavedFrame, saved_from, saved_frames}
 use Rattle.vale_player.specs.declared.frames.SyncEnd.{SyncEnd}
 use Rattle.vale_player.specs.Syncing.{EndsRx, sync_end_of}
-use Rattle.vale_player.specs.Saving.{saved_bytes, HasGone}
+use Rattle.vale_player.specs.Saving.{HasGone}
 
 -- all of a saved frame is captured
 abbrev pub record_of : SavedFrame → Record
@@ -109,18 +113,38 @@ sync_stop_of fault = stop_of_end (sync_end_of fault)
 abbrev pub record_at : ℕ → ℕ → List ℕ → Record
 record_at number place bytes = record_of (record { seconds = number; fraction = place; bytes = bytes })
 
--- the records of the frames that a receive sync has brought to a port's ring
-abbrev pub new_records : OwnState → ℕ → Received → List Record
-new_records own id received = map record_of (saved_bytes received.entry 0 (frames_before_tail own id received.gave))
+-- where the tail of a port's receive ring is: what a sync brings then stands from there on
+abbrev pub tail_of_ring : OwnRing → ℕ
+tail_of_ring r = r.ring.tail
+
+abbrev pub rx_tail : OwnState → ℕ → ℕ
+rx_tail own id = option_map_or tail_of_ring (ring_at Rx own id) 0
+
+-- the records of the frames of an entry
+abbrev pub records_of : ℕ → List Frame → List Record
+records_of number frames = map record_of (saved_from number 0 frames)
+
+-- those of the frames that a receive sync has brought to a port's ring, whose tail was here
+abbrev pub new_records : OwnState → ℕ → ℕ → Received → List Record
+new_records own id tail received = records_of received.entry (frames_from own id tail)
 
 -- which go behind those of the port
-abbrev pub grown_if : OwnState → ℕ → Received → KeptFrames → KeptFrames
-grown_if own id received k = if k.id == id then (record k { records = k.records ++ new_records own id received }) else k
+abbrev pub grown_if : OwnState → ℕ → ℕ → Received → KeptFrames → KeptFrames
+grown_if own id tail received k = if k.id == id then (record k { records = k.records ++ new_records own id tail received }) else k
 
 -- so it is with all ports that are kept; a sync that brought nothing changes none
-abbrev pub kept_received : OwnState → ℕ → Option Received → List KeptFrames → List KeptFrames
-kept_received own id None kept = kept
-kept_received own id (Some received) kept = map (grown_if own id received) kept
+abbrev pub kept_received : OwnState → ℕ → ℕ → Option Received → List KeptFrames → List KeptFrames
+kept_received own id tail None kept = kept
+kept_received own id tail (Some received) kept = map (grown_if own id tail received) kept
+
+-- as many frames have come as the sync says, and each is no longer than frames are
+pub record AreReceived (received : Received) (frames : List Frame) : Type 0 where
+  pub count : received.gave ≡ length frames
+  pub fit : list_all is_frame frames ≡ true
+
+abbrev pub HasReceived : OwnState → ℕ → ℕ → Option Received → Type 0
+HasReceived own id tail None = Unit {0}
+HasReceived own id tail (Some received) = AreReceived received (frames_from own id tail)
 
 -- a port that was opened is kept from then on, if its name is among those whose frames are kept
 abbrev pub kept_opened : List (List ℕ) → List ℕ → Result PortId OpenFault → List KeptFrames → List KeptFrames

@@ -75,7 +75,7 @@ OwnActsAreDone =
 abbrev pub FramesArePut : Type 0
 FramesArePut =
     (number : ℕ) (saves : List Save) (s : SessionState) (name bytes : List ℕ) (p : OwnPort)
-    → IsThere None s → port_with_name s.own name ≡ Some p → has_room s.own p.id.0 ≡ true
+    → IsThere None s → port_with_name s.own name ≡ Some p → has_room s.own p.id.0 bytes ≡ true
     → DoesTasks number saves s (record s { own = with_frame p.id.0 bytes s.own }) (PutFrame name bytes ∷ [])
 
 -- a call that made one entry
@@ -109,7 +109,7 @@ FailedSendsEnd =
 -- a frame for which there was no room is still to be put if the sync was not refused and made some
 abbrev pub behind_sync : SessionState → Ask → List ℕ → List ℕ → List Task → List Task
 behind_sync t ask name bytes rest =
-    if is_reset (kept_ask ask) || not (has_room_at t.own name) then lines_left rest else PutFrame name bytes ∷ rest
+    if is_reset (kept_ask ask) || not (has_room_at t.own name bytes) then lines_left rest else PutFrame name bytes ∷ rest
 
 abbrev pub PutsSync : Type 0
 PutsSync =

@@ -1,6 +1,6 @@
 -- Laws of the frames that are saved: what a session finds in its receive rings is what its script's
 -- files are to have.
-use Rattle.std.specs.Prelude.{ℕ, ◌≡◌, ◌≢◌, ◌≤◌, ◌+◌, false, List, [], ◌∷◌, ◌++◌, length, None, All}
+use Rattle.std.specs.Prelude.{ℕ, ◌≡◌, ◌≢◌, ◌≤◌, false, List, [], ◌++◌, length, None, All}
 use Rattle.vale_entry.specs.declared.entry.Ask.{Ask}
 use Rattle.vale_entry.specs.declared.entry.Entry.{Entry}
 use Rattle.vale_entry.specs.declared.entry.Reply.{Reply}
@@ -18,14 +18,9 @@ use Rattle.nm_user.specs.Receives.{IsReceived, ReceivesNot}
 use Rattle.nm_user.specs.declared.leaving.Detached.{Detached}
 use Rattle.nm_user.specs.Leaving.{IsDetached, IsLeft}
 use Rattle.vale_fabric.specs.Fabrics.{Knowing}
-use Rattle.nm_user.specs.Saving.{frames_before_tail, read_of}
+use Rattle.nm_user.specs.Saving.{frames_from, read_of}
 use Rattle.nm_user.specs.PortReads.{reads_at, IsPortOf, ReadsNot}
-use Rattle.vale_replay.specs.Saved.{SavedFrame, saved_from, saved_in, saved_frames}
-
--- records of frames whose bytes these are, of the entry of this number, from this place in it on
-abbrev pub saved_bytes : ℕ → ℕ → List (List ℕ) → List SavedFrame
-saved_bytes number place [] = []
-saved_bytes number place (bytes ∷ rest) = record { seconds = number; fraction = place; bytes = bytes } ∷ saved_bytes number (place + 1) rest
+use Rattle.vale_replay.specs.Saved.{saved_from, saved_in, saved_frames}
 
 -- an entry of another session, or one that is no read of the port, saves nothing of it
 abbrev pub OthersSaveNothing : Type 0
@@ -43,7 +38,7 @@ SavedStay =
 abbrev pub SavedBegin : Type 0
 SavedBegin = (pool : ℕ) (history : List Entry) (id : ℕ) → length history ≤ id → saved_frames pool history id ≡ []
 
--- a receive sync adds what its entry reads: what the session then finds before its ring's tail
+-- a receive sync adds what its entry reads: what the session then finds from where its ring's tail was on
 abbrev pub SavedGrow : Type 0
 SavedGrow =
     (s t : SessionState) (id : ℕ) (received : Received) → IsThere None s → IsThere None t → IsReceived s t id received
@@ -52,9 +47,9 @@ SavedGrow =
 
 abbrev pub RingIsSaved : Type 0
 RingIsSaved =
-    (s t : SessionState) (id : ℕ) (received : Received) → IsThere None s → IsThere None t → IsReceived s t id received
+    (s t : SessionState) (id : ℕ) (received : Received) → IsThere None s → IsThere None t → (is : IsReceived s t id received)
     → saved_frames t.fixed.pool t.knows.seen id
-    ≡ saved_frames s.fixed.pool s.knows.seen id ++ saved_bytes received.entry 0 (frames_before_tail t.own id received.gave)
+    ≡ saved_frames s.fixed.pool s.knows.seen id ++ saved_from received.entry 0 (frames_from t.own id is.at.port.rx.ring.tail)
 
 -- no other call of the session adds to what is saved of a port: one of one entry, a sync, and one
 -- that was refused

@@ -19,7 +19,7 @@ use Rattle.nm_user.specs.Calls.{Made, MadeNone}
 use Rattle.nm_user.specs.Syncs.{Synced, HasTx, IsUnsent}
 use Rattle.nm_user.specs.Receives.{HasPort}
 use Rattle.vale_replay.specs.Edits.{at_port}
-use Rattle.vale_replay.specs.Tasks.{Task, SendFrames, fits_a_buffer, played_before_sync}
+use Rattle.vale_replay.specs.Tasks.{Task, SendFrames, fits_to_play, played_before_sync}
 use Rattle.vale_replay.specs.Machine.{Machine, call_of_task, is_reset}
 use Rattle.vale_player.specs.declared.frames.SyncEnd.{SyncEnd}
 use Rattle.vale_player.specs.declared.frames.SyncEnd.TheVariants as ends
@@ -116,7 +116,7 @@ NeedsNoneOrEnds p q task false = Ends p q (task ∷ [])
 
 -- frames still to be played, so many of them before the next sync
 abbrev pub playing : List ℕ → ℕ → ℕ → List (List ℕ) → List Task
-playing name batch left frames = played_before_sync name batch left (filter fits_a_buffer frames)
+playing name batch left frames = played_before_sync name batch left (filter (fits_to_play name) frames)
 
 -- Behind a frame the user goes on with those left, of which so many come before the next sync; or the
 -- line has ended.

@@ -65,7 +65,8 @@ impl<'f> Player<'f> {
     }
 
     /// Forwards up to `count` frames without a copy, from the receive ring of one port to the
-    /// transmit ring of another, while both have a slot at their heads.
+    /// transmit ring of another, while a whole frame stands at the receive ring's head and the
+    /// transmit ring has slots for it; an end of a pipe takes frames of one slot alone.
     pub fn forward(&mut self, from: &Name, to: &Name, count: u32)
         ensures { self.new ≡ with_act (acts.Fwd from.now to.now count) self.old }
     {

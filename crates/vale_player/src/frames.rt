@@ -4,18 +4,21 @@
 ghost use Rattle.std.specs.Prelude.{ℕ, List, ◌≡◌, ◌≤◌, [], ◌∷◌, cond, length, map, replicate};
 ghost use Rattle.std.specs.Prelude.{true, None, Some, IsSome, IfSome, OnOk, IfOk, IfErr};
 ghost use Rattle.vale_player.specs.Words.{IsThere, IsUnsent, PutFrame, SendFrames, TakeFrames, Tx};
-ghost use Rattle.vale_player.specs.Words.{captured, frame_of_put, has_room, played, port_with_id};
+ghost use Rattle.vale_player.specs.Words.{buffer_bytes, captured, frame_of_put, has_room};
+ghost use Rattle.vale_player.specs.Words.{most_frame_bytes, most_to_play, played, port_with_id};
 ghost use Rattle.vale_player.specs.Words.{ring_at};
 ghost use Rattle.vale_player.specs.Players.{Does, DoesOrEnds, DoesLine, HasCalled, Stops, StopsAt};
 ghost use Rattle.vale_player.specs.Players.{IsStill};
 ghost use Rattle.vale_player.specs.Syncing.{sender_named, sync_end_of, EndsTx, RxMadeNone};
-ghost use Rattle.vale_player.specs.Kept.{SavesBy, CameRx, sync_stop_of};
+ghost use Rattle.vale_player.specs.Kept.{SavesBy, CameRx, rx_tail, sync_stop_of};
 ghost use Rattle.vale_player.specs.Syncing.{has_passed, leaves_room, with_put, NeedsNoneOrEnds};
 ghost use Rattle.vale_player.specs.Syncing.{playing, HasSent, PlaysOn};
 
 use crate::player::Player;
 use nm_io::Gate;
-use nm_types::{Mac, Name, NoMemory, PortId, Side, StepFault, SyncFault};
+use nm_types::{
+    BUFFER_BYTES, MAX_FRAME_BYTES, Mac, Name, NoMemory, PortId, Side, StepFault, SyncFault,
+};
 use nm_user::{Received, Session};
 use pcap_io::Record;
 use std::alloc::Global;
@@ -88,6 +91,27 @@ fn transmit<'f, R: Wait, G: Gate>(
     }
 }
 
+/// Where the tail of a port's receive ring is.
+fn rx_tail(session: &Session, port: PortId) -> u32
+    ensures { result ≡ rx_tail session.now.own port.0 }
+{
+    match session.ring(port, Side::Rx) {
+        Some(ring) => ring.tail(),
+        None => 0,
+    }
+}
+
+/// How many bytes a record may have that is put at the port of a name.
+fn most_to_play(name: &Name) -> usize
+    ensures { result ≡ most_to_play name.now }
+{
+    if name.is_pipe() {
+        BUFFER_BYTES
+    } else {
+        MAX_FRAME_BYTES
+    }
+}
+
 /// Why a user stops at a sync that did not go through, if it does.
 fn stop_of(fault: SyncFault) -> Result<(), StepFault>
     ensures { result ≡ sync_stop_of fault }
@@ -134,7 +158,7 @@ impl<'f> Player<'f> {
 
     /// Puts a frame at the port of a name, if there is room for it.
     fn write_frame(&mut self, name: &Name, port: PortId, bytes: &[u8])
-        requires size { length bytes.now ≤ 2048 }
+        requires size { length bytes.now ≤ most_frame_bytes }
         requires named { sender_named self.old.session.own name.now ≡ Some port }
         ensures put { self.new ≡ with_put name.now bytes.now self.old }
         ensures named { sender_named self.new.session.own name.now ≡ Some port }
@@ -144,11 +168,12 @@ impl<'f> Player<'f> {
 
     /// Puts copies of a frame at the port of a name, as many as there is room for. Answers how many.
     fn write_copies(&mut self, name: &Name, port: PortId, bytes: &[u8], count: u32) -> u32
-        requires size { length bytes.now ≤ 2048 }
+        requires size { length bytes.now ≤ buffer_bytes }
         requires named { sender_named self.old.session.own name.now ≡ Some port }
         ensures does { Does self.old self.new (replicate result (PutFrame name.now bytes.now)) }
         ensures named { sender_named self.new.session.own name.now ≡ Some port }
-        ensures some { has_room self.old.session.own port.0 ≡ true → 1 ≤ count → 1 ≤ result }
+        ensures some { has_room self.old.session.own port.0 bytes.now ≡ true → 1 ≤ count
+            → 1 ≤ result }
         ensures most { result ≤ count }
         ensures still { IsStill self.old self.new }
     {
@@ -156,11 +181,12 @@ impl<'f> Player<'f> {
     }
 
     /// There is room for a frame in the transmit ring of a port.
-    fn has_room(&self, port: PortId) -> bool
-        ensures room { result ≡ has_room self.now.session.own port.0 }
+    fn has_room(&self, port: PortId, bytes: &[u8]) -> bool
+        requires { length bytes.now ≤ most_frame_bytes }
+        ensures room { result ≡ has_room self.now.session.own port.0 bytes.now }
         ensures there { IsThere None self.now.session }
     {
-        self.session.has_room(port)
+        self.session.has_room(port, bytes.len())
     }
 
     /// Syncs the transmit ring of a name's port. The line ends unless the sync goes through: where a
@@ -185,24 +211,25 @@ impl<'f> Player<'f> {
         rt: &R,
         name: &Name,
         port: PortId,
+        bytes: &[u8],
         gate: &G,
     ) -> Result<bool, StepFault>
-        requires { sender_named self.old.session.own name.now ≡ Some port }
-        ensures room { IfOk result (λ goes. (bytes : List ℕ)
-            → NeedsNoneOrEnds self.old self.new (PutFrame name.now bytes) goes) }
+        requires size { length bytes.now ≤ most_frame_bytes }
+        requires named { sender_named self.old.session.own name.now ≡ Some port }
+        ensures room { IfOk result
+            (NeedsNoneOrEnds self.old self.new (PutFrame name.now bytes.now)) }
         ensures ready { IfOk result (λ goes.
-            goes ≡ true → has_room self.new.session.own port.0 ≡ true) }
+            goes ≡ true → has_room self.new.session.own port.0 bytes.now ≡ true) }
         ensures named { sender_named self.new.session.own name.now ≡ Some port }
-        ensures stops { IfErr result (λ fault. (bytes : List ℕ)
-            → StopsAt self.old self.new (PutFrame name.now bytes) fault) }
+        ensures stops { IfErr result (StopsAt self.old self.new (PutFrame name.now bytes.now)) }
         ensures still { IsStill self.old self.new }
         ensures there { IsThere None self.old.session }
     {
-        if self.has_room(port) {
+        if self.has_room(port, bytes) {
             return Ok(true);
         }
         match self.send(rt, name, port, gate) {
-            Ok(end) => Ok(end.leaves_room(self.has_room(port))),
+            Ok(end) => Ok(end.leaves_room(self.has_room(port, bytes))),
             Err(fault) => Err(fault),
         }
     }
@@ -218,7 +245,7 @@ impl<'f> Player<'f> {
         bytes: &[u8],
         gate: &G,
     ) -> Result<bool, StepFault>
-        requires size { length bytes.now ≤ 2048 }
+        requires size { length bytes.now ≤ most_frame_bytes }
         requires named { sender_named self.old.session.own name.now ≡ Some port }
         ensures does { IfOk result
             (DoesOrEnds self.old self.new (PutFrame name.now bytes.now ∷ [])) }
@@ -227,7 +254,7 @@ impl<'f> Player<'f> {
         ensures still { IsStill self.old self.new }
         ensures there { IsThere None self.old.session }
     {
-        match self.make_room(rt, name, port, gate) {
+        match self.make_room(rt, name, port, bytes, gate) {
             Ok(true) => {
                 self.write_frame(name, port, bytes);
                 Ok(true)
@@ -245,8 +272,9 @@ impl<'f> Player<'f> {
         let Some(port) = self.session.port_named(name) else {
             return Ok(());
         };
+        let tail = rx_tail(&self.session, port);
         let ended = receive(&mut self.session, rt, port, gate);
-        self.kept.receive(&self.session, port, ended.0);
+        self.kept.receive(&self.session, port, tail, ended.0);
         ended.1
     }
 
@@ -274,7 +302,7 @@ impl<'f> Player<'f> {
         frame: &[u8],
         gate: &G,
     ) -> Result<(), StepFault>
-        requires { length frame.now ≤ 2048 }
+        requires { length frame.now ≤ buffer_bytes }
         ensures does { OnOk result
             (DoesLine self.old self.new (replicate count (PutFrame name.now frame.now))) }
         ensures stops { IfErr result
@@ -287,7 +315,7 @@ impl<'f> Player<'f> {
         let put = self.write_copies(name, port, frame, count);
         let mut left = count - put;
         while left > 0 {
-            match self.make_room(rt, name, port, gate) {
+            match self.make_room(rt, name, port, frame, gate) {
                 Ok(true) => left -= self.write_copies(name, port, frame, left),
                 Ok(false) => return Ok(()),
                 Err(fault) => return Err(fault),
@@ -297,7 +325,7 @@ impl<'f> Player<'f> {
     }
 
     /// Puts a record at the port of a name, and syncs behind it if it is the last one before a sync.
-    /// One that is longer than a buffer is passed over. Answers how many come then before the next
+    /// One that has more than `most` bytes is passed over. Answers how many come then before the next
     /// sync; none where the line has ended.
     fn play_one<R: Wait, G: Gate>(
         &mut self,
@@ -305,10 +333,12 @@ impl<'f> Player<'f> {
         name: &Name,
         port: PortId,
         bytes: &[u8],
+        most: usize,
         batch: u32,
         left: u32,
         gate: &G,
     ) -> Result<Option<u32>, StepFault>
+        requires most { most ≡ most_to_play name.now }
         requires named { sender_named self.old.session.own name.now ≡ Some port }
         requires batch { 1 ≤ batch }
         requires left { 1 ≤ left }
@@ -321,7 +351,7 @@ impl<'f> Player<'f> {
             → Stops self.old self.new (playing name.now batch left (bytes.now ∷ frames)) fault) }
         ensures still { IsStill self.old self.new }
     {
-        if bytes.len() > 2048 {
+        if bytes.len() > most {
             return Ok(Some(left));
         }
         match self.put_frame(rt, name, port, bytes, gate) {
@@ -339,7 +369,8 @@ impl<'f> Player<'f> {
     }
 
     /// A line that plays the records of a capture: puts them one after another, and syncs behind
-    /// each `batch` of them and behind the last one. Records longer than a buffer are passed over.
+    /// each `batch` of them and behind the last one. Records longer than a frame may be are passed
+    /// over, and at an end of a pipe those longer than a buffer.
     pub fn play<R: Wait, G: Gate>(
         &mut self,
         rt: &R,
@@ -358,10 +389,11 @@ impl<'f> Player<'f> {
         let Some(port) = self.sender(name) else {
             return Ok(());
         };
+        let most = most_to_play(name);
         let mut left = batch;
         for record in records {
             let bytes = record.bytes.as_slice();
-            match self.play_one(rt, name, port, bytes, batch, left, gate) {
+            match self.play_one(rt, name, port, bytes, most, batch, left, gate) {
                 Ok(Some(next)) => left = next,
                 Ok(None) => return Ok(()),
                 Err(fault) => return Err(fault),
@@ -386,7 +418,7 @@ pub(crate) fn write_frame_of_put(
     len: u16,
     fill: u8,
 ) -> Result<(), NoMemory>
-    requires { len ≤ 2048 }
+    requires { len ≤ buffer_bytes }
     ensures { OnOk result (bytes.new.items ≡ frame_of_put to from len fill) }
 {
     let len = len as usize;

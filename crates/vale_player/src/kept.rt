@@ -1,14 +1,15 @@
 //! The frames that are kept of a user's ports, for the files into which they go.
-ghost use Rattle.std.specs.Prelude.{ℕ, List, ◌≡◌, ◌<◌, ◌^◌, ◌++◌, ◌==◌, [], ◌∷◌, find, map, option_map, length};
+ghost use Rattle.std.specs.Prelude.{ℕ, List, ◌≡◌, ◌≤◌, ◌++◌, ◌==◌, [], ◌∷◌, find, map, option_map, length};
 ghost use Rattle.std.specs.Prelude.{Some, true, OnOk, IfOk, bytes_eq};
 ghost use Rattle.std.specs.List.{AllByRecursion, list_any};
 ghost use Rattle.std.specs.Option.{option_copied};
 ghost use Rattle.vale_captures.specs.Outputs.{IsShortRecord};
-ghost use Rattle.vale_player.specs.Words.{bytes_or_none, frame_before_tail};
-ghost use Rattle.vale_player.specs.Kept.{AreOrLost, Keeps, KeptFrames, both_kept, grown_if};
-ghost use Rattle.vale_player.specs.Kept.{kept_opened, kept_received, new_records, ports_in, record_at};
+ghost use Rattle.vale_player.specs.Words.{frames_from, most_frame_bytes};
+ghost use Rattle.vale_player.specs.Kept.{AreOrLost, AreReceived, HasReceived, Keeps, KeptFrames};
+ghost use Rattle.vale_player.specs.Kept.{both_kept, grown_if, kept_opened, kept_received, ports_in};
+ghost use Rattle.vale_player.specs.Kept.{record_at, records_of};
 
-use nm_types::{Name, NoMemory, OpenFault, PortId};
+use nm_types::{Batch, Name, NoMemory, OpenFault, PortId};
 use nm_user::{Received, Session};
 use pcap_io::Record;
 use std::alloc::Global;
@@ -35,20 +36,9 @@ impl Model for KeptPort {
     ghost invariant = { λ k. AllByRecursion IsShortRecord k.records.items };
 }
 
-/// The bytes of the frame so many steps before the tail of a port's receive ring.
-fn bytes_before_tail<'a>(session: &'a Session, port: PortId, back: u32) -> &'a [u8]
-    ensures bytes { result.now ≡ bytes_or_none (frame_before_tail session.now.own port.0 back) }
-    ensures size { length result.now < 2 ^ 16 }
-{
-    match session.frame_before_tail(port, back) {
-        Some(bytes) => bytes,
-        None => &[],
-    }
-}
-
 /// The record of a frame.
 fn record_of_frame(alloc: Global, entry: u32, place: u32, frame: &[u8]) -> Result<Record, NoMemory>
-    requires { length frame.now < 2 ^ 16 }
+    requires { length frame.now ≤ most_frame_bytes }
     ensures made { IfOk result (λ made. made ≡ record_at entry place frame.now) }
     ensures short { IfOk result IsShortRecord }
 {
@@ -63,20 +53,16 @@ fn record_of_frame(alloc: Global, entry: u32, place: u32, frame: &[u8]) -> Resul
 }
 
 /// Puts the records of the frames that a receive sync has brought behind others.
-fn add_frames(
-    session: &Session,
-    port: PortId,
-    received: Received,
-    records: &mut Vec<Record>,
-) -> Result<(), NoMemory>
-    requires { AllByRecursion IsShortRecord records.old.items }
+fn add_frames(received: Received, frames: &Batch, records: &mut Vec<Record>) -> Result<(), NoMemory>
+    requires short { AllByRecursion IsShortRecord records.old.items }
+    requires received { AreReceived received frames.now }
     ensures added { OnOk result (records.new.items
-        ≡ records.old.items ++ new_records session.now.own port.0 received) }
+        ≡ records.old.items ++ records_of received.entry frames.now) }
     ensures short { AllByRecursion IsShortRecord records.new.items }
 {
     let alloc = *records.allocator();
     for place in 0..received.gave {
-        let frame = bytes_before_tail(session, port, received.gave - place);
+        let frame = frames.frame(place as usize);
         records.push(record_of_frame(alloc, received.entry, place, frame)?)?;
     }
     Ok(())
@@ -86,13 +72,16 @@ fn add_frames(
 fn grow_if(
     session: &Session,
     port: PortId,
+    tail: u32,
     received: Received,
     kept: &mut KeptPort,
 ) -> Result<(), NoMemory>
-    ensures { OnOk result (kept.new ≡ grown_if session.now.own port.0 received kept.old) }
+    requires { AreReceived received (frames_from session.now.own port.0 tail) }
+    ensures { OnOk result (kept.new ≡ grown_if session.now.own port.0 tail received kept.old) }
 {
     if kept.port.0 == port.0 {
-        add_frames(session, port, received, &mut kept.records)
+        let frames = session.frames_from(port, tail)?;
+        add_frames(received, &frames, &mut kept.records)
     } else {
         Ok(())
     }
@@ -102,14 +91,16 @@ fn grow_if(
 fn grow_all(
     session: &Session,
     port: PortId,
+    tail: u32,
     received: Received,
     kept: &mut [KeptPort],
 ) -> Result<(), NoMemory>
+    requires { AreReceived received (frames_from session.now.own port.0 tail) }
     ensures { OnOk result (kept.new
-        ≡ map (grown_if session.now.own port.0 received) kept.old) }
+        ≡ map (grown_if session.now.own port.0 tail received) kept.old) }
 {
     for one in kept.iter_mut() {
-        grow_if(session, port, received, one)?;
+        grow_if(session, port, tail, received, one)?;
     }
     Ok(())
 }
@@ -118,17 +109,19 @@ fn grow_all(
 fn keep_received(
     session: &Session,
     port: PortId,
+    tail: u32,
     got: Option<Received>,
     kept: Vec<KeptPort>,
 ) -> Result<Vec<KeptPort>, NoMemory>
+    requires { HasReceived session.now.own port.0 tail got }
     ensures { IfOk result (λ now. now.items
-        ≡ kept_received session.now.own port.0 got kept.items) }
+        ≡ kept_received session.now.own port.0 tail got kept.items) }
 {
     let Some(received) = got else {
         return Ok(kept);
     };
     let mut kept = kept;
-    grow_all(session, port, received, kept.as_mut_slice())?;
+    grow_all(session, port, tail, received, kept.as_mut_slice())?;
     Ok(kept)
 }
 
@@ -224,13 +217,21 @@ impl SavedPorts {
         }
     }
 
-    /// Keeps what a receive sync has brought. If memory is wanting, nothing is kept any more.
-    pub(crate) fn receive(&mut self, session: &Session, port: PortId, got: Option<Received>)
-        ensures { AreOrLost (option_map (kept_received session.now.own port.0 got) self.old)
+    /// Keeps what a receive sync has brought: the frames from where the tail of the port's receive
+    /// ring was before it. If memory is wanting, nothing is kept any more.
+    pub(crate) fn receive(
+        &mut self,
+        session: &Session,
+        port: PortId,
+        tail: u32,
+        got: Option<Received>,
+    )
+        requires { HasReceived session.now.own port.0 tail got }
+        ensures { AreOrLost (option_map (kept_received session.now.own port.0 tail got) self.old)
             self.new }
     {
         if let Some(kept) = self.ports.take() {
-            self.ports = keep_received(session, port, got, kept).ok();
+            self.ports = keep_received(session, port, tail, got, kept).ok();
         }
     }
 

@@ -1,7 +1,7 @@
 //! What a user does of its own lines.
 ghost use Rattle.std.specs.Prelude.{◌≡◌, ◌≤◌, [], ◌∷◌, length, map, replicate, OnOk, IfErr};
-ghost use Rattle.vale_player.specs.Words.{IsSoundAct, PutFrame, SaveFrames, acts_of, captured};
-ghost use Rattle.vale_player.specs.Words.{frame_of_put, has_line, tasks_of, tasks_of_lines};
+ghost use Rattle.vale_player.specs.Words.{IsSoundAct, PutFrame, SaveFrames, acts_of, buffer_bytes};
+ghost use Rattle.vale_player.specs.Words.{captured, frame_of_put, has_line, tasks_of, tasks_of_lines};
 ghost use Rattle.vale_player.specs.Players.{Does, DoesLine, Stops, IsStill, RunsLines, with_act};
 ghost use Rattle.vale_player.specs.Inputs.{records_in};
 ghost use Rattle.vale_player.specs.Deeds.{IsSoundWatch, AreDoable, receive_tasks};
@@ -125,7 +125,7 @@ impl<'f> Player<'f> {
         fill: u8,
         gate: &G,
     ) -> Result<(), StepFault>
-        requires { len ≤ 2048 }
+        requires { len ≤ buffer_bytes }
         ensures does { OnOk result (DoesLine self.old self.new
             (replicate count (PutFrame name.now (frame_of_put to from len fill)))) }
         ensures stops { IfErr result (Stops self.old self.new

@@ -32,8 +32,8 @@ pub fn saved_frames_grow()
     ensures { SavedGrow }
 {}
 
-/// These are the frames in the last slots before the tail of the port's receive ring, as many as
-/// the sync gave.
+/// These are the frames in the slots of the port's receive ring from where its tail was on, each
+/// joined of its parts.
 pub fn ring_is_saved()
     ensures { RingIsSaved }
 {}

@@ -7,7 +7,7 @@ use Rattle.nm_types.specs.declared.id.LeaseId.{LeaseId}
 use Rattle.nm_types.specs.Frames.{Frame, slots_of, size_of_frames}
 use Rattle.nm_region.specs.Buffers.{Buffer, indices_of}
 use Rattle.vale_line.specs.declared.got.Got.{Got}
-use Rattle.vale_line.specs.Gots.{IsSingle, frames_in, buffers_of}
+use Rattle.vale_line.specs.Gots.{FitsPart, IsSingle, frames_in, buffers_of}
 use Rattle.vale_line.specs.Leased.{Leased, buffer_count}
 use Rattle.vale_line.specs.Lines.{LineState, IsLine, with_lease, leased, granted_sizes, given_by_sync, out_of, ready_gots, with_put}
 use Rattle.vale_line.specs.Lines.{space_of as line_space}
@@ -132,13 +132,13 @@ line-taken p id pending count n back taken line takes made =
     ∙ ap (λ (k : ℕ). with_put id (take n pending) (record p.line { idle = drop k p.line.idle })) (takes.count_is ∙ sym takes.as_many))
 
 pub seat-taken : (seat : Seat) (p : PortState) (id : LeaseId) (session : ℕ) (frames : List Frame) (pending : List Got) (count n : ℕ) (back : List Buffer) (taken : List Got) (line : LineState)
-    → IsSeatOf seat p → IsLine p.line → All IsSingle pending → Taking p pending count n back taken → line ≡ line_after_put id (take n pending) p.line
+    → IsSeatOf seat p → IsLine p.line → All IsSingle pending → All FitsPart pending → Taking p pending count n back taken → line ≡ line_after_put id (take n pending) p.line
     → bytes_of frames ≡ frames_in (take n pending)
     → IsSeatOf (seat_put id.0 session frames (indices_of (buffers_of (take n pending))) seat) (record p { line = line })
-seat-taken seat p id session frames pending count n back taken line is kept single takes made bytes =
+seat-taken seat p id session frames pending count n back taken line is kept single fit takes made bytes =
     let many = takes.as_many in
     let least = takes.least in
-    let next = put_is_put seat p id session frames (take n pending) is kept (All-take IsSingle n pending single) bytes (omega (arith, many, least)) in
+    let next = put_is_put seat p id session frames (take n pending) is kept (All-take IsSingle n pending single) (All-take FitsPart n pending fit) bytes (omega (arith, many, least)) in
     subst (λ (l : LineState). IsSeatOf (seat_put id.0 session frames (indices_of (buffers_of (take n pending))) seat) (record p { line = l })) (sym made) next
 
 pub count-taken : (seat : Seat) (p : PortState) (offered n : ℕ) → IsSeatOf seat p → IsLine p.line → n ≡ min offered (line_space p.line) → n ≡ min offered (space_of seat.port)

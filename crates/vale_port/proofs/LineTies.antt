@@ -14,6 +14,8 @@ use Rattle.vale_line.specs.declared.got.Got.{Got}
 use Rattle.vale_line.specs.Gots.{buffer_of, buffers_of}
 use Rattle.vale_line.specs.Lines.{HeldLot, LineState, is_done, is_out_at, gots_of, frames_of_lot as held_frames, lease_of, leases_of, done_lots, behind_done, ready_gots, ready_frames, held_gots, completed, slots_out}
 use Rattle.vale_line.specs.Lines.{slots_of as line_slots}
+use Rattle.vale_line.specs.Gots.{frames_in}
+use Rattle.vale_line.proofs.CutLemmas.{cut-tells}
 use Rattle.vale_entry.specs.World.{Port, Lot, size_of_line, is_undone}
 use Rattle.vale_entry.specs.Holdings.{PortBuffers}
 use Rattle.vale_entry.specs.Delivery.{is_done_lot, is_lease, lot_after_done, frames_of_lot}
@@ -135,6 +137,10 @@ tie-frames : (t : TiedLot) → t.lot.is_done ≡ true → kept_gots (gots_of t.h
 tie-frames t done =
     let given : option_map kept_gots t.held.gots ≡ (if t.lot.is_done then Some (world_frames t.lot t.buffers) else None) = ap (λ (k : KeptLot). k.given) t.same in
     gots_by t.held.gots (world_frames t.lot t.buffers) (rw done at given)
+
+-- and so has its frames
+frames-told : (t : TiedLot) → kept_gots (gots_of t.held) ≡ world_frames t.lot t.buffers → frames_in (gots_of t.held) ≡ bytes_of t.lot.frames
+frames-told t told = (cut-tells (bytes_of t.lot.frames) (gots_of t.held) (ap (λ (k : KeptFrames). k.parts) told)).are
 
 -- Counts, and what is looked for.
 
@@ -367,7 +373,7 @@ given-first t ts done given =
           ∙ (indices-append (buffers_of (gots_of t.held)) (buffers_of (ready_gots hs)) ∙ joined (ap (λ (k : KeptFrames). k.buffers) told) given.buffers));
       bytes =
           ap (λ (ls : List HeldLot). flat_map held_frames ls) cut
-          ∙ (joined (ap (λ (k : KeptFrames). k.frames) told) given.bytes ∙ (sym (map-append (λ (f : Frame). f.bytes) t.lot.frames rest) ∙ ap bytes_of (sym frames)));
+          ∙ (joined (frames-told t told) given.bytes ∙ (sym (map-append (λ (f : Frame). f.bytes) t.lot.frames rest) ∙ ap bytes_of (sym frames)));
       slots = ap line_slots cut ∙ (held ∙ (omega (arith, own, later, size) ∙ ap size_of_frames (sym frames)));
       left = ap (map kept_lot) behind ∙ given.left;
       as_many = given.as_many;
@@ -399,7 +405,7 @@ all-ties (t ∷ ts) none = elim (cases_Bool t.lot.is_done) [
             ap indices_of (map-append buffer_of (gots_of t.held) (held_gots hs))
             ∙ (indices-append (buffers_of (gots_of t.held)) (buffers_of (held_gots hs)) ∙ joined (ap (λ (k : KeptFrames). k.buffers) told) given.buffers);
         bytes =
-            joined (ap (λ (k : KeptFrames). k.frames) told) given.bytes ∙ sym (map-append (λ (f : Frame). f.bytes) t.lot.frames (flat_map frames_of_lot (map lot_in ts)));
+            joined (frames-told t told) given.bytes ∙ sym (map-append (λ (f : Frame). f.bytes) t.lot.frames (flat_map frames_of_lot (map lot_in ts)));
       }
   | inr undone ↦
       let count = sum_by-cons one_undone t.lot (map lot_in ts) in

@@ -18,7 +18,7 @@ use Rattle.vale_entry.proofs.Removals.{filter-at_key}
 use Rattle.vale_port.specs.Laws.{is_numbered}
 use Rattle.vale_port.specs.Lists.{AreRising, EachPortStands, FoundIsFound, NotFoundIsNone, ChangeIsChange, ShutIsShutAmong, DoneIsDoneAmong, OpenIsOpenAmong, GoneIsGone, NewIsNew}
 use Rattle.vale_port.specs.Ports.{PortState, IsSeatOf, AreSeatsOf}
-use Rattle.vale_port.specs.Seat.{Seat, port_of, held_of, seats_of}
+use Rattle.vale_port.specs.Seat.{Seat, port_of, seats_of}
 use Rattle.vale_port.proofs.SeatTies.{lots_are_lots, filled-numbered}
 
 -- Seats and ports, side by side.
@@ -35,12 +35,6 @@ pub seats-ports : (ports : List Port) (helds : List PortBuffers) → PortsAgree 
 seats-ports [] helds agree = refl
 seats-ports (port ∷ ports) [] agree = absurd agree
 seats-ports (port ∷ ports) (held ∷ helds) agree = ap (λ (ps : List Port). port ∷ ps) (seats-ports ports helds agree.1)
-
-pub seats-held : (ports : List Port) (helds : List PortBuffers) → PortsAgree ports helds → map held_of (seats_of ports helds) ≡ helds
-seats-held [] [] agree = refl
-seats-held [] (held ∷ helds) agree = absurd agree
-seats-held (port ∷ ports) [] agree = absurd agree
-seats-held (port ∷ ports) (held ∷ helds) agree = ap (λ (hs : List PortBuffers). held ∷ hs) (seats-held ports helds agree.1)
 
 pub seats-at : (ports : List Port) (helds : List PortBuffers) (place : ℕ) (port : Port) (held : PortBuffers) → slice_get ports place ≡ Some port → slice_get helds place ≡ Some held
     → slice_get (seats_of ports helds) place ≡ Some (seat_with port held)

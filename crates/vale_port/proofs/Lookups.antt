@@ -8,10 +8,10 @@ use Rattle.std.specs.List.{list_any, position_or_len}
 use Rattle.std.proofs.lemmas.Bool.{and_right, cases_Bool, ltb-false}
 use Rattle.std.proofs.lemmas.List.Quantifiers.{position-Some}
 use Rattle.vale_entry.specs.World.{Port, is_open_at}
-use Rattle.vale_entry.specs.Closing.{is_shutting_at, is_port_of}
+use Rattle.vale_entry.specs.Closing.{is_shutting_at}
 use Rattle.vale_entry.specs.Delivered.{has_id}
 use Rattle.vale_port.specs.Lists.{IsFoundAt, IsNotFound, AreOpenOn, port_id}
-use Rattle.vale_port.specs.Ports.{PortState, IsSeatOf, AreSeatsOf, id_of_state, open_ids, is_open_id_on, is_open_state, is_open_state_on, is_shutting_state, is_state_of, is_state_of_session}
+use Rattle.vale_port.specs.Ports.{PortState, IsSeatOf, AreSeatsOf, id_of_state, open_ids, is_open_id_on, is_open_state, is_open_state_on, is_shutting_state, is_state_of}
 use Rattle.vale_port.specs.Seat.{Seat, port_of}
 
 found-at : (test : PortState → Bool) (of : Port → Bool) → ((seat : Seat) (p : PortState) → IsSeatOf seat p → of seat.port ≡ test p)
@@ -75,9 +75,6 @@ same-shutting id seat p is = let one = is.id in let two = is.shutting in cc
 
 pub same-id : (id : ℕ) (seat : Seat) (p : PortState) → IsSeatOf seat p → has_id id seat.port ≡ is_state_of id p
 same-id id seat p is = let one = is.id in cc
-
-pub same-session : (session : ℕ) (seat : Seat) (p : PortState) → IsSeatOf seat p → is_port_of session seat.port ≡ is_state_of_session session p
-same-session session seat p is = let one = is.session in cc
 
 -- The open ports of a switch are those of the world.
 

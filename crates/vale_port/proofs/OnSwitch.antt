@@ -8,6 +8,7 @@ use Rattle.std.proofs.lemmas.Grind.{same_number_lists}
 use Rattle.std.proofs.lemmas.Slice.Eq.{bytes_eq-Decides}
 use Rattle.nm_types.specs.declared.name.Kind.{Kind}
 use Rattle.nm_types.specs.declared.name.Kind.TheVariants.{Vale, Master, Slave, Monitor}
+use Rattle.nm_types.specs.Limits.{name_bytes}
 use Rattle.nm_types.specs.Names.{is_switch_port, is_switch_port_at, is_switch_port_kind, is_switch_port_name, pipe_kind, is_word, switch_of, colon_in, IsName}
 use Rattle.nm_types.specs.Openings.{is_on_switch}
 use Rattle.nm_types.proofs.SwitchNames.{kind_of-vale}
@@ -117,7 +118,7 @@ port-parts name is =
     let rest = drop 4 name in
     let pipe = no_pipe (is_word (take (length rest - 1) rest)) (slice_index rest (length rest - 1) == 123) (slice_index rest (length rest - 1) == 125) in
     let other = no_other (starts_with nat_eq name (codes "pipe")) (starts_with nat_eq name (codes "mon")) (is_word (drop 3 name)) (pipe_kind rest) pipe in
-    let parts = only_vale (nat_lt 16 (length name)) (is_vale name) (is_switch_port rest) _ other is in
+    let parts = only_vale (nat_lt name_bytes (length name)) (is_vale name) (is_switch_port rest) _ other is in
     (parts.0, port_colon rest (has_colon rest) (colon_at rest) parts.1)
 
 vale-port : (name : List ℕ) → IsName name → is_vale name ≡ true → is_switch_port_name name ≡ true
@@ -223,14 +224,6 @@ begins-other text with k less differ = elim (cases_Bool (starts_with nat_eq text
 ]
 
 -- the last byte of `vale` and a switch's text stands in each name of the switch's ports
-
-pub last-none : IsLastByte [] 101
-last-none = refl
-
-pub last-some : (switch : List ℕ) → 1 ≤ length switch → IsLastByte switch (slice_index switch (length switch - 1))
-last-some switch some =
-    let place : length switch + 3 ≡ suc (suc (suc (suc (length switch - 1)))) = omega (arith, some) in
-    rw place refl
 
 same_last : (switch : List ℕ) (a b c d last : ℕ) (rest : List ℕ) → IsLastByte switch last → codes "vale" ≡ a ∷ b ∷ c ∷ d ∷ []
     → length switch < length rest → switch ≡ take (length switch) rest → get_or (a ∷ b ∷ c ∷ d ∷ rest) (length switch + 3) 0 ≡ last

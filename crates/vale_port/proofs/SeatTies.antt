@@ -1,31 +1,35 @@
 -- Ports of owned buffers and the seats of the world that they stand for: each step keeps the tie.
 use Rattle.std.proofs.Common.{ℕ, zero, suc, Bool, true, false, not, ◌≡◌, ◌+◌, ◌-◌, ◌<◌, ◌≤◌, List, [], ◌∷◌, ◌++◌, length, take, drop, map, Option, Some, None, inl, inr, refl, sym, ◌∙◌, ap, subst, arith}
 use Rattle.std.specs.Prelude.{flat_map, All, sum, sum_by, nat_le, find, option_map, ◌==◌}
-use Rattle.std.specs.List.{list_any}
+use Rattle.std.specs.List.{list_any, list_all}
 use Rattle.std.proofs.lemmas.Bool.{cases_Bool, ne_eqb, eq-eqb, eqb-true, leb-true, and_parts}
 use Rattle.std.proofs.lemmas.List.{length-append, length-map, length-drop}
 use Rattle.std.proofs.lemmas.List.Elements.{All-cons, All-head, All-tail}
 use Rattle.std.proofs.lemmas.List.Sums.{sum_by-cons}
-use Rattle.nm_types.specs.declared.id.LeaseId.{LeaseId}
-use Rattle.nm_types.specs.Frames.{Frame, slots_of, size_of_frames}
-use Rattle.nm_types.proofs.Sizes.{size_of_frames-length}
+use Rattle.std.proofs.lemmas.Option.{same_Some}
 use Rattle.nm_types.proofs.Tests.{or_second}
+use Rattle.nm_types.specs.declared.id.LeaseId.{LeaseId}
+use Rattle.nm_types.specs.Limits.{most_frame_bytes}
+use Rattle.nm_types.specs.Frames.{Frame, slots_of, size_of_frames}
+use Rattle.nm_types.specs.Parts.{HeldPart, cut_frame, cut_frames}
+use Rattle.nm_types.specs.Sendable.{is_frame}
+use Rattle.nm_types.proofs.PartLemmas.{slots-some, slots-few, length-cut}
+use Rattle.nm_types.proofs.Sizes.{length-size, some-size}
 use Rattle.nm_region.specs.Buffers.{indices_of}
 use Rattle.vale_line.specs.declared.got.Got.{Got}
 use Rattle.vale_line.specs.Fitting.{fitting_sizes, IsFrameSize}
-use Rattle.vale_line.specs.Gots.{buffers_of, buffer_of, frames_in, last_count, is_last, IsSingle}
+use Rattle.vale_line.specs.Gots.{buffers_of, buffer_of, frames_in, held_part, held_parts, FitsPart, IsSingle}
 use Rattle.vale_line.specs.Leased.{Leased, buffer_count}
 use Rattle.vale_line.specs.Lines.{HeldLot, LineState, IsLine, with_lease, given_by_sync, out_of, opened_lot, put_lot, ready_gots, held_gots, completed, gots_of, slots_out}
 use Rattle.vale_line.specs.Lines.{space_of as line_space, slots_of as line_slots}
 use Rattle.vale_line.proofs.FittingLemmas.{sum-cons}
-use Rattle.vale_line.proofs.FrameLemmas.{count-frames}
-use Rattle.vale_line.proofs.LotLemmas.{slots_of-push, slots-parts, ready-frames, all-done}
+use Rattle.vale_line.proofs.CutLemmas.{cut-singles}
+use Rattle.vale_line.proofs.LotLemmas.{slots_of-push, slots-parts, ready-frames, ready-cut, all-done}
 use Rattle.vale_entry.specs.World.{Port, Lot, space_of}
 use Rattle.vale_entry.specs.Grant.{longest_fitting, port_after_grant}
 use Rattle.vale_entry.specs.Delivery.{ready_lots, frames_of_lot, port_after_sync, port_after_done, lot_after_done, is_lease}
 use Rattle.vale_entry.specs.Holdings.{PortBuffers, PortAgrees, with_lot_buffers, with_returned, with_put_buffers}
 use Rattle.vale_entry.specs.Pipe.{port_after_put}
-use Rattle.vale_entry.proofs.Slots.{frames-few}
 use Rattle.vale_port.specs.Kept.{KeptLine, kept_lot, KeptFrames, kept_gots, world_lot, bytes_of, IsLineOf}
 use Rattle.vale_port.specs.Ports.{IsFilledFor, PortState, IsSeatOf, Gives, sizes_of, frames_of_seat}
 use Rattle.vale_port.specs.Seat.{Seat, LotSeat, given_frames, seat_put, lease_among, lease_seat}
@@ -33,7 +37,7 @@ use Rattle.vale_port.specs.Laws.{SpaceIsSpace, SizesAreSizes, GrantIsGrant, NoGr
 use Rattle.vale_port.proofs.LineTies.{Ties, some-same, cons-head, cons-tail, ties-line, line-same, length-indices, indices-append, slots-lots, out-lots, there-lots, sizes-lots, kept-push, kept-done, given-lots, all-lots}
 
 -- the lots of a port's line, with what they stand for
-ties-seat : (seat : Seat) (p : PortState) → IsSeatOf seat p → Ties p.line.lots seat.port.line seat.held.lots
+pub ties-seat : (seat : Seat) (p : PortState) → IsSeatOf seat p → Ties p.line.lots seat.port.line seat.held.lots
 ties-seat seat p is = ties-line seat.port seat.held p.line is.line
 
 pub size-seat : RingIsRing
@@ -80,8 +84,12 @@ sum-sizes (f ∷ fs) =
     omega (arith, rest, one, two)
 
 pub sizes_are_frame_sizes : SizesAreFrameSizes
-sizes_are_frame_sizes [] = λ k d within. absurd (omega (arith, within))
-sizes_are_frame_sizes (f ∷ fs) = All-cons IsFrameSize (slots_of f) (sizes_of fs) (omega arith, omega arith) (sizes_are_frame_sizes fs)
+sizes_are_frame_sizes [] whole = λ k d within. absurd (omega (arith, within))
+sizes_are_frame_sizes (f ∷ fs) whole =
+    let parts = and_parts (is_frame f) (list_all is_frame fs) whole in
+    let some = slots-some (length f.bytes) in
+    let few = slots-few (length f.bytes) (leb-true (length f.bytes) most_frame_bytes parts.0) in
+    All-cons IsFrameSize (slots_of f) (sizes_of fs) (some, few) (sizes_are_frame_sizes fs parts.1)
 
 fitting-within : (room : ℕ) (frames : List Frame) → size_of_frames (longest_fitting room frames) ≤ room
 fitting-within room [] = omega arith
@@ -110,8 +118,8 @@ grant-line port held line id session (f ∷ fs) is some =
     let lot = lot_of id.0 session false (f ∷ fs) in
     let one : kept_lot (opened_lot id n) ≡ world_lot lot (take n held.idle) = refl in
     let made = kept-push port held line n (opened_lot id n) lot (take n held.idle) is one in
-    let few : length (f ∷ fs) ≤ n = frames-few (f ∷ fs) in
-    subst (λ (h : PortBuffers). IsLineOf (port_after_grant id.0 session (f ∷ fs) port) h (with_lease id n line)) (sym (with_lot_buffers-some n held (omega (arith, few)))) made
+    let count = length-size (f ∷ fs) in
+    subst (λ (h : PortBuffers). IsLineOf (port_after_grant id.0 session (f ∷ fs) port) h (with_lease id n line)) (sym (with_lot_buffers-some n held (omega (arith, count)))) made
 
 -- the same port with another line
 with_seat : (seat : Seat) (p : PortState) (port : Port) (held : PortBuffers) (line : LineState) → IsSeatOf seat p
@@ -190,9 +198,11 @@ sync_is_sync seat p back is line few =
       same = line-same (size-seat seat p is) idle given.left;
       as_many = given.as_many;
     } in
+    let bytes = ready-frames p.line.lots line.lots ∙ given.bytes in
     let gives : Gives seat (ready_gots p.line.lots) = record {
       buffers = given.buffers;
-      bytes = ready-frames p.line.lots line.lots ∙ given.bytes;
+      parts = ready-cut p.line.lots line.lots ∙ ap cut_frames bytes;
+      bytes = bytes;
     } in
     let all : length (p.line.idle ++ back) ≡ length p.line.idle + length back = length-append p.line.idle back in
     let parts = slots-parts p.line.lots in
@@ -206,23 +216,25 @@ sync_is_sync seat p back is line few =
 
 -- A put.
 
-singles-count : (gots : List Got) → All IsSingle gots → sum_by last_count gots ≡ length gots
-singles-count [] all = refl
-singles-count (got ∷ gots) all =
-    let here : is_last got ≡ true = eq-eqb got.rest 0 (All-head IsSingle got gots all) in
-    let one : last_count got ≡ 1 = rw here refl in
-    let rest = singles-count gots (All-tail IsSingle got gots all) in
-    let sum = sum_by-cons last_count got gots in
-    omega (arith, one, rest, sum)
+-- frames take as many buffers as slots
+pub length-cut_frames : (frames : List Frame) → length (cut_frames (bytes_of frames)) ≡ size_of_frames frames
+length-cut_frames [] = refl
+length-cut_frames (f ∷ fs) =
+    let first = length-cut f.bytes in
+    let rest = length-cut_frames fs in
+    let both = length-append (cut_frame f.bytes) (cut_frames (bytes_of fs)) in
+    let sum = sum_by-cons slots_of f fs in
+    omega (arith, first, rest, both, sum)
+
+pub size-held : (frames : List Frame) (gots : List Got) → held_parts gots ≡ cut_frames (bytes_of frames) → size_of_frames frames ≡ length gots
+size-held frames gots parts = sym (length-cut_frames frames) ∙ (ap (λ (ps : List HeldPart). length ps) (sym parts) ∙ length-map gots held_part)
+
+-- what a put brings
+held-put : (frames : List Frame) (gots : List Got) → All IsSingle gots → All FitsPart gots → bytes_of frames ≡ frames_in gots → held_parts gots ≡ cut_frames (bytes_of frames)
+held-put frames gots single fit bytes = cut-singles gots single fit ∙ ap cut_frames (sym bytes)
 
 pub length-taken : (gots : List Got) → length (indices_of (buffers_of gots)) ≡ length gots
 length-taken gots = length-indices (buffers_of gots) ∙ length-map gots buffer_of
-
--- as many slots as buffers
-size-put : (frames : List Frame) (gots : List Got) → All IsSingle gots → bytes_of frames ≡ frames_in gots → size_of_frames frames ≡ length gots
-size-put frames gots single bytes =
-    size_of_frames-length frames
-    ∙ (sym (length-map frames (λ (f : Frame). f.bytes)) ∙ (ap length bytes ∙ (count-frames [] gots ∙ singles-count gots single)))
 
 with_put_buffers-some : (taken : List ℕ) (held : PortBuffers) → 0 < length taken
     → with_put_buffers taken held ≡ record held { idle = drop (length taken) held.idle; lots = held.lots ++ taken ∷ [] }
@@ -254,15 +266,16 @@ line_after_put-none id [] line none = refl
 line_after_put-none id (got ∷ gots) line none = absurd (omega (arith, none))
 
 put-more : (seat : Seat) (p : PortState) (id : LeaseId) (session : ℕ) (frames : List Frame) (gots : List Got) → IsSeatOf seat p → IsLine p.line
-    → size_of_frames frames ≡ length gots → bytes_of frames ≡ frames_in gots → length gots ≤ line_space p.line → 0 < length gots
+    → held_parts gots ≡ cut_frames (bytes_of frames) → length gots ≤ line_space p.line → 0 < length gots
     → IsSeatOf (seat_put id.0 session frames (indices_of (buffers_of gots)) seat) (record p { line = line_after_put id gots p.line })
-put-more seat p id session frames gots is line slots bytes fits some =
+put-more seat p id session frames gots is line parts fits some =
     let n = length gots in
     let taken = indices_of (buffers_of gots) in
     let count : length taken ≡ n = length-taken gots in
-    let frames_some : 0 < length frames = (let same = size_of_frames-length frames in omega (arith, same, slots, some)) in
+    let slots = size-held frames gots parts in
+    let frames_some = some-size frames (omega (arith, slots, some)) in
     let lot = lot_of id.0 session true frames in
-    let bytes' = sym bytes in
+    let parts' = sym parts in
     let slots' = sym slots in
     let one : kept_lot (put_lot id gots) ≡ world_lot lot taken = cc in
     let pushed = kept-push seat.port seat.held p.line n (put_lot id gots) lot taken is.line one in
@@ -280,16 +293,16 @@ put-more seat p id session frames gots is line slots bytes fits some =
     (subst (λ (l : LineState). IsSeatOf after (record p { line = l })) (sym (line_after_put-some id gots p.line some)) whole)
 
 pub put_is_put : PutIsPut
-put_is_put seat p id session frames gots is line single bytes fits = elim (cases_Bool (length gots == 0)) [
+put_is_put seat p id session frames gots is line single fit bytes fits = elim (cases_Bool (length gots == 0)) [
   | inl none ↦
       let few : length gots ≡ 0 = eqb-true (length gots) 0 none in
-      let slots = size-put frames gots single bytes in
-      let less = frames-few frames in
+      let slots = size-held frames gots (held-put frames gots single fit bytes) in
+      let less = length-size frames in
       let count = length-taken gots in
       subst (λ (s : Seat). IsSeatOf s (record p { line = line_after_put id gots p.line })) (sym (put-none seat id.0 session frames (indices_of (buffers_of gots)) (omega (arith, few, slots, less)) (omega (arith, few, count))))
       (subst (λ (l : LineState). IsSeatOf seat (record p { line = l })) (sym (line_after_put-none id gots p.line few)) is)
   | inr some ↦
-      put-more seat p id session frames gots is line (size-put frames gots single bytes) bytes fits (nonzero (length gots) some)
+      put-more seat p id session frames gots is line (held-put frames gots single fit bytes) fits (nonzero (length gots) some)
 ]
   where
     nonzero : (n : ℕ) → (n == 0) ≡ false → 0 < n
@@ -346,7 +359,7 @@ leasing number (lot ∷ lots) [] x sizes e = absurd cc
 leasing number (lot ∷ lots) (list ∷ lists) x sizes e = elim (cases_Bool (is_lease number lot)) [
   | inl here ↦
       let told : Some (lot_seat lot list) ≡ Some x = rw here at e in
-      let same : lot_seat lot list ≡ x = some-same told in
+      let same : lot_seat lot list ≡ x = same_Some (lot_seat lot list) x told in
       let found : find (is_lease number) (lot ∷ lots) ≡ Some lot = rw here refl in
       let size : length list ≡ size_of_frames lot.frames = cons-head sizes in
       subst (λ (y : LotSeat). Leasing number (lot ∷ lots) y) same (record { found = found; size = size })
@@ -366,7 +379,7 @@ filled-by : (seat : Seat) (p : PortState) (lease : Leased) (found : Option LotSe
 filled-by seat p lease None is agrees full e filled = absurd cc
 filled-by seat p lease (Some x) is agrees full e filled =
     let told = leasing lease.id seat.port.line seat.held.lots x agrees.lots e in
-    let frames : frames_of_seat x ≡ kept_gots lease.filled = some-same filled in
+    let frames : frames_of_seat x ≡ kept_gots lease.filled = same_Some (frames_of_seat x) (kept_gots lease.filled) filled in
     let buffers : length x.buffers ≡ length lease.filled = ap (λ (k : KeptFrames). length k.buffers) frames ∙ length-taken lease.filled in
     let none : length lease.empty ≡ 0 = ap length full in
     let size = told.size in

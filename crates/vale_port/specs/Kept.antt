@@ -1,19 +1,20 @@
 -- What the kernel side of a port's receive ring shows of the world. A line and the world are both
 -- seen as the size of the ring, the numbers of the idle buffers, and for each lot its number, its
--- slots, and once it is done its buffers and the bytes of its frames.
+-- slots, and once it is done its buffers and the parts of its frames in them.
 use Rattle.std.specs.Prelude.{ℕ, ◌≡◌, if◌then◌else◌, List, [], ◌∷◌, map, Option, Some, None, option_map, length}
 use Rattle.nm_types.specs.Frames.{Frame, size_of_frames}
+use Rattle.nm_types.specs.Parts.{HeldPart, cut_frames}
 use Rattle.nm_region.specs.Buffers.{indices_of}
 use Rattle.vale_line.specs.declared.got.Got.{Got}
-use Rattle.vale_line.specs.Gots.{buffers_of, frames_in}
+use Rattle.vale_line.specs.Gots.{buffers_of, held_parts}
 use Rattle.vale_line.specs.Lines.{HeldLot, LineState}
 use Rattle.vale_entry.specs.World.{Port, Lot}
 use Rattle.vale_entry.specs.Holdings.{PortBuffers}
 
--- the buffers of a lot, and the bytes of its frames
+-- the buffers of a lot, and the parts of its frames
 pub record KeptFrames : Type 0 where
   pub buffers : List ℕ
-  pub frames : List (List ℕ)
+  pub parts : List HeldPart
 
 pub record KeptLot : Type 0 where
   pub number : ℕ
@@ -28,7 +29,7 @@ pub record KeptLine : Type 0 where
 -- The line's side.
 
 abbrev pub kept_gots : List Got → KeptFrames
-kept_gots gots = record { buffers = indices_of (buffers_of gots); frames = frames_in gots }
+kept_gots gots = record { buffers = indices_of (buffers_of gots); parts = held_parts gots }
 
 abbrev pub kept_lot : HeldLot → KeptLot
 kept_lot lot = record { number = lot.id.0; slots = lot.slots; given = option_map kept_gots lot.gots }
@@ -42,7 +43,7 @@ abbrev pub bytes_of : List Frame → List (List ℕ)
 bytes_of frames = map (λ (f : Frame). f.bytes) frames
 
 abbrev pub world_frames : Lot → List ℕ → KeptFrames
-world_frames lot buffers = record { buffers = buffers; frames = bytes_of lot.frames }
+world_frames lot buffers = record { buffers = buffers; parts = cut_frames (bytes_of lot.frames) }
 
 abbrev pub world_lot : Lot → List ℕ → KeptLot
 world_lot lot buffers = record {

@@ -1,12 +1,13 @@
 -- What a line does is what the world's port does.
 use Rattle.std.specs.Prelude.{ℕ, Bool, true, ◌==◌, ◌≡◌, ◌≤◌, List, [], ◌++◌, drop, length, map, find, Some, option_map, All}
-use Rattle.std.specs.List.{list_any}
+use Rattle.std.specs.List.{list_any, list_all}
+use Rattle.nm_types.specs.Sendable.{is_frame}
 use Rattle.nm_types.specs.declared.id.LeaseId.{LeaseId}
 use Rattle.nm_types.specs.Frames.{Frame, size_of_frames}
 use Rattle.nm_region.specs.Buffers.{Buffer, indices_of}
 use Rattle.vale_lease.specs.Leases.{is_there, out_count}
 use Rattle.vale_line.specs.declared.got.Got.{Got}
-use Rattle.vale_line.specs.Gots.{buffers_of, frames_in, IsSingle}
+use Rattle.vale_line.specs.Gots.{buffers_of, frames_in, FitsPart, IsSingle}
 use Rattle.vale_line.specs.Fitting.{IsFrameSize}
 use Rattle.vale_line.specs.Leased.{Leased, buffer_count}
 use Rattle.vale_line.specs.Lines.{LineState, IsLine, leases_of, granted_sizes, with_lease, given_by_sync, with_put, completed, ready_gots, held_gots, slots_out, out_of}
@@ -56,7 +57,7 @@ line_after_put id gots line = with_put id gots (record line { idle = drop (lengt
 
 abbrev pub PutIsPut : Type 0
 PutIsPut = (seat : Seat) (p : PortState) (id : LeaseId) (session : ℕ) (frames : List Frame) (gots : List Got) → IsSeatOf seat p → IsLine p.line
-    → All IsSingle gots → bytes_of frames ≡ frames_in gots → length gots ≤ line_space p.line
+    → All IsSingle gots → All FitsPart gots → bytes_of frames ≡ frames_in gots → length gots ≤ line_space p.line
     → IsSeatOf (seat_put id.0 session frames (indices_of (buffers_of gots)) seat) (with_line (line_after_put id gots p.line) p)
 
 abbrev pub ShutIsShut : Type 0
@@ -86,9 +87,9 @@ abbrev pub FilledIsOut : Type 0
 FilledIsOut = (seat : Seat) (p : PortState) (lease : Leased) → IsSeatOf seat p → PortAgrees seat.port seat.held → IsFilledFor seat lease → lease.empty ≡ []
     → (slots_out lease.id p.line.lots ≡ Some (buffer_count lease)) × (list_any (is_numbered lease.id) seat.port.line ≡ true)
 
--- what a grant asks for: each frame takes 1 to 64 slots
+-- what a grant asks for: each frame takes 1 to `most_frame_slots` slots
 abbrev pub SizesAreFrameSizes : Type 0
-SizesAreFrameSizes = (frames : List Frame) → All IsFrameSize (sizes_of frames)
+SizesAreFrameSizes = (frames : List Frame) → list_all is_frame frames ≡ true → All IsFrameSize (sizes_of frames)
 
 -- a line has as many buffers as the ring of its port
 abbrev pub RingIsRing : Type 0

@@ -1,12 +1,13 @@
 -- A port that owns the buffers of its kernel side, and the seat of the world that it stands for.
-use Rattle.std.specs.Prelude.{ℕ, Bool, false, ◌≡◌, ◌≤◌, ◌+◌, ◌&&◌, ◌==◌, not, List, [], ◌∷◌, ◌++◌, codes, length, take, map, filter, nat_lt, nat_eq, slice_index, Some, option_map}
+use Rattle.std.specs.Prelude.{ℕ, Bool, false, ◌≡◌, ◌≤◌, ◌<◌, ◌+◌, ◌&&◌, ◌==◌, not, List, [], ◌∷◌, ◌++◌, codes, length, take, map, filter, nat_lt, nat_eq, slice_index, slice_index_or, Some, option_map}
 use Rattle.std.specs.List.{starts_with, AllZip}
 use Rattle.nm_types.specs.Frames.{Frame, slots_of, size_of_frames}
 use Rattle.nm_types.specs.declared.id.PortId.{PortId}
 use Rattle.nm_types.specs.Openings.{is_on_switch}
 use Rattle.nm_region.specs.Buffers.{Buffer, indices_of}
 use Rattle.vale_line.specs.declared.got.Got.{Got}
-use Rattle.vale_line.specs.Gots.{buffers_of, frames_in}
+use Rattle.vale_line.specs.Gots.{buffers_of, frames_in, held_parts}
+use Rattle.nm_types.specs.Parts.{cut_frames}
 use Rattle.vale_line.specs.Leased.{Leased, buffer_count}
 use Rattle.vale_line.specs.Lines.{LineState, out_of, new_line}
 use Rattle.vale_entry.specs.World.{Offer}
@@ -47,11 +48,16 @@ AreSeatsOf seats ps = AllZip IsSeatOf seats ps
 abbrev pub due_of_state : PortState → ℕ
 due_of_state p = p.tx + p.extra + out_of p.line
 
+-- the ports stand by rising ids
+abbrev pub AreByRisingIds : List PortState → Type 0
+AreByRisingIds ps = (i j : ℕ) (d : PortState) → i < j → j < length ps → (slice_index_or ps i d).id < (slice_index_or ps j d).id
+
+-- the ids below the one that is looked for
+abbrev pub is_state_before : ℕ → PortState → Bool
+is_state_before id p = nat_lt p.id id
+
 abbrev pub is_state_of : ℕ → PortState → Bool
 is_state_of id p = p.id == id
-
-abbrev pub is_state_of_session : ℕ → PortState → Bool
-is_state_of_session session p = p.session == session
 
 abbrev pub is_open_state : ℕ → PortState → Bool
 is_open_state id p = (p.id == id) && not p.shutting
@@ -101,7 +107,8 @@ frames_of_seat lot = world_frames lot.lot lot.buffers
 abbrev pub IsFilledFor : Seat → Leased → Type 0
 IsFilledFor seat lease = option_map frames_of_seat (lease_seat lease.id seat) ≡ Some (kept_gots lease.filled)
 
--- what a sync gives: the buffers of the world's ready lots, with the bytes of their frames
+-- what a sync gives: the buffers of the world's ready lots, with the parts of their frames
 pub record Gives (seat : Seat) (gots : List Got) : Type 0 where
   pub buffers : indices_of (buffers_of gots) ≡ ready_buffers seat
+  pub parts : held_parts gots ≡ cut_frames (bytes_of (delivered_frames seat.port))
   pub bytes : frames_in gots ≡ bytes_of (delivered_frames seat.port)

@@ -16,9 +16,6 @@ pub record Seat : Type 0 where
 abbrev pub port_of : Seat → Port
 port_of seat = seat.port
 
-abbrev pub held_of : Seat → PortBuffers
-held_of seat = seat.held
-
 -- ports side by side with their buffers
 abbrev pub seats_of : List Port → List PortBuffers → List Seat
 seats_of [] helds = []

@@ -12,8 +12,8 @@ pub use Rattle.vale_entry.specs.Pipe.{taken_count}
 pub use Rattle.vale_entry.specs.World.{Offer, due_of, open_port}
 pub use Rattle.vale_lease.specs.Leases.{is_there, out_count}
 pub use Rattle.vale_line.specs.Fitting.{IsFrameSize}
-pub use Rattle.vale_line.specs.Gots.{IsSingle, buffers_of, frames_in}
+pub use Rattle.vale_line.specs.Gots.{FitsPart, IsSingle, buffers_of, frames_in}
 pub use Rattle.vale_line.specs.Leased.{buffer_count}
 pub use Rattle.vale_line.specs.Lines.{completed, given_by_sync, granted_sizes}
-pub use Rattle.vale_line.specs.Lines.{held_gots, leased, leases_of, out_of, ready_gots}
+pub use Rattle.vale_line.specs.Lines.{held_gots, leased, leases_of, out_of, ready_frames, ready_gots}
 pub use Rattle.vale_line.specs.Lines.{room_to_sync, slots_out, space_of, with_lease}

@@ -10,8 +10,6 @@ mod steps;
 
 pub use laws::{lines_are_ports, lines_find_lots, ports_are_kept, ports_open_and_close};
 pub use port::{Opening, Port};
-pub use ports::{
-    first_of_session, is_open_on, leased_port, open_port, open_ports_on, shutting_port,
-};
+pub use ports::{is_open_on, leased_port, offered_port, open_port, open_ports_on, shutting_port};
 pub use room::PutRoom;
 pub use steps::{close_at, done_at, grant_at, put_at, shut_at, sync_at};

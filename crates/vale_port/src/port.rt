@@ -1,10 +1,12 @@
 ghost use Rattle.std.specs.Prelude.{List, ℕ, true, ◌≡◌, ◌≤◌, ◌+◌, ◌-◌, ◌==◌, ◌&&◌, not, nat_lt, slice_index, [], ◌++◌, All, length, take, drop, map, min, sum, nat_eq, false, Some, None, vec_capacity, IfOk, IfErr, IfSome, IfNone};
-ghost use Rattle.vale_port.specs.Words.{Frame, IsFrameSize, IsName, IsSingle, Offer, buffer_count};
+ghost use Rattle.nm_types.specs.Limits.{most_ring};
+ghost use Rattle.vale_port.specs.Words.{FitsPart, Frame, IsFrameSize, IsName, IsSingle, Offer, buffer_count};
 ghost use Rattle.vale_port.specs.Words.{buffers_at_port, buffers_of, colon_in, completed};
 ghost use Rattle.vale_port.specs.Words.{delivered_frames, due_of, frames_in, given_by_sync};
 ghost use Rattle.vale_port.specs.Words.{granted_sizes, held_gots, indices_of, is_on_switch};
 ghost use Rattle.vale_port.specs.Words.{is_there, leased, leases_of, leases_out, out_count, out_of};
-ghost use Rattle.vale_port.specs.Words.{ready_gots, room_to_sync, size_of_frames, slots_out};
+ghost use Rattle.vale_port.specs.Words.{ready_frames, ready_gots, room_to_sync, size_of_frames};
+ghost use Rattle.vale_port.specs.Words.{slots_out};
 ghost use Rattle.vale_port.specs.Words.{space_of as line_space, starts_with, switch_of};
 ghost use Rattle.vale_port.specs.Words.{taken_count, unread_count, with_lease};
 ghost use Rattle.vale_entry.specs.World.{space_of};
@@ -130,7 +132,7 @@ impl Port {
         opening: Opening,
         bufs: Vec<Buf>,
     ) -> Result<Port, (NoMemory, Vec<Buf>)>
-        requires size { (1 ≤ length bufs.items) × (length bufs.items ≤ 1024) }
+        requires size { (1 ≤ length bufs.items) × (length bufs.items ≤ most_ring) }
         ensures ok { IfOk result (λ port. port ≡ opened_state opening.id.0 opening.session.0
             opening.name opening.tx opening.extra bufs.items) }
         ensures seat { IfOk result (λ port. IsSeatOf (opened_seat opening.id.0 opening.session.0
@@ -264,6 +266,25 @@ impl Port {
         self.line.ready()
     }
 
+    /// Returns the number of frames that a sync would hand out.
+    pub fn ready_frames(&self) -> u32
+        ensures state { result ≡ length (ready_frames self.now.line.lots) }
+        ensures seat { (seat : Seat) → IsSeatOf seat self.now
+            → result ≡ length (delivered_frames seat.port) }
+    {
+        self.line.ready_frames()
+    }
+
+    /// Puts the slots of each of these frames into an empty vector that has room for them.
+    pub fn ready_sizes(&self, sizes: &mut Vec<u32>)
+        requires none { sizes.old.items ≡ [] }
+        requires room { length (ready_frames self.now.line.lots) ≤ vec_capacity sizes.old }
+        ensures { (seat : Seat) → IsSeatOf seat self.now
+            → sizes.new.items ≡ sizes_of (delivered_frames seat.port) }
+    {
+        self.line.ready_sizes(sizes);
+    }
+
     /// Returns the number of buffers for which a sync wants room: none where it hands out one lot,
     /// whose own vector serves.
     pub fn room_to_sync(&self) -> u32
@@ -340,6 +361,7 @@ impl Port {
     pub fn put(&mut self, id: LeaseId, pending: &mut Vec<Got>, room: PutRoom) -> Vec<Buf>
         requires new { is_there id.0 (leases_of self.old.line.lots) ≡ false }
         requires single { All IsSingle pending.old.items }
+        requires fits { All FitsPart pending.old.items }
         requires room { min (length pending.old.items) (line_space self.old.line) ≤ room }
         ensures count { length result.items
             ≡ min (length pending.old.items) (line_space self.old.line) }

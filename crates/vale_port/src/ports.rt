@@ -1,18 +1,46 @@
-ghost use Rattle.std.specs.Prelude.{◌≡◌, ◌==◌, find, position, IfOk, IfSome, IfNone};
-ghost use Rattle.vale_port.specs.Words.{is_port_of, list_any, open_port, port_at, shutting_port};
+ghost use Rattle.std.specs.Prelude.{◌≡◌, ◌≤◌, ◌==◌, length, position, IfOk, IfSome, IfNone};
+ghost use Rattle.std.specs.List.{prefix_len};
+ghost use Rattle.vale_port.specs.Words.{list_any, open_port, port_at, shutting_port};
 ghost use Rattle.vale_port.specs.Words.{switch_of};
 ghost use Rattle.vale_port.specs.Lists.{IsFoundAt, IsNotFound, AreOpenOn};
-ghost use Rattle.vale_port.specs.Ports.{open_ids, is_state_of, is_state_of_session, is_open_id_on, is_open_state, is_shutting_state};
+ghost use Rattle.vale_port.specs.Ports.{AreByRisingIds, open_ids, is_state_before, is_state_of, is_open_id_on, is_open_state, is_shutting_state};
 
 use crate::port::{Port, last_byte};
-use nm_types::{Name, NoMemory, PortId, SessionId};
+use nm_types::{Name, NoMemory, PortId};
 use std::alloc::Global;
 use vale_line::Lease;
 
-fn place_of(ports: &[Port], id: PortId) -> Option<usize>
+/// Counts the ports whose ids are smaller.
+fn rank_of(ports: &[Port], id: PortId) -> usize
+    requires { AreByRisingIds ports.now }
+    ensures rank { result ≡ prefix_len (is_state_before id.0) ports.now }
+    ensures within { result ≤ length ports.now }
+{
+    ports.partition_point(|port| port.id().0 < id.0)
+}
+
+fn place_by_halves(ports: &[Port], id: PortId) -> Option<usize>
+    requires { AreByRisingIds ports.now }
     ensures { result ≡ position (is_state_of id.0) ports.now }
 {
-    ports.iter().position(|port| port.id() == id)
+    let at = rank_of(ports, id);
+    if at < ports.len() && ports[at].id() == id {
+        Some(at)
+    } else {
+        None
+    }
+}
+
+fn open_place_by_halves(ports: &[Port], id: PortId) -> Option<usize>
+    requires { AreByRisingIds ports.now }
+    ensures { result ≡ position (is_open_state id.0) ports.now }
+{
+    let at = rank_of(ports, id);
+    if at < ports.len() && ports[at].is_open_at(id) {
+        Some(at)
+    } else {
+        None
+    }
 }
 
 fn place_of_open(ports: &[Port], id: PortId) -> Option<usize>
@@ -43,26 +71,22 @@ pub fn shutting_port(ports: &[Port], id: PortId) -> Option<usize>
     place_of_shutting(ports, id)
 }
 
-/// Returns the place of the port that a lease is of, open or shutting.
+/// Returns the place of the open port to which frames are offered. It looks at few of the ports.
+pub fn offered_port(ports: &[Port], to: PortId) -> Option<usize>
+    requires { AreByRisingIds ports.now }
+    ensures some { IfSome result (IsFoundAt (λ all. open_port all to.0) ports.now) }
+    ensures none { IfNone result (IsNotFound (λ all. open_port all to.0) ports.now) }
+{
+    open_place_by_halves(ports, to)
+}
+
+/// Returns the place of the port that a lease is of, open or shutting. It looks at few of the ports.
 pub fn leased_port(ports: &[Port], lease: &Lease) -> Option<usize>
+    requires { AreByRisingIds ports.now }
     ensures some { IfSome result (IsFoundAt (λ all. port_at all lease.now.to) ports.now) }
     ensures none { IfNone result (IsNotFound (λ all. port_at all lease.now.to) ports.now) }
 {
-    place_of(ports, lease.to())
-}
-
-fn place_of_session(ports: &[Port], session: SessionId) -> Option<usize>
-    ensures { result ≡ position (is_state_of_session session.0) ports.now }
-{
-    ports.iter().position(|port| port.session() == session)
-}
-
-/// Returns the place of the first port of this session, open or shutting.
-pub fn first_of_session(ports: &[Port], session: SessionId) -> Option<usize>
-    ensures some { IfSome result (IsFoundAt (λ all. find (is_port_of session.0) all) ports.now) }
-    ensures none { IfNone result (IsNotFound (λ all. find (is_port_of session.0) all) ports.now) }
-{
-    place_of_session(ports, session)
+    place_by_halves(ports, lease.to())
 }
 
 #[tactic(auto, using(crate::proofs::OnSwitch::switches))]

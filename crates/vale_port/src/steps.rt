@@ -1,5 +1,5 @@
 ghost use Rattle.std.specs.Prelude.{List, ℕ, ◌≡◌, ◌≤◌, ◌<◌, ◌-◌, true, [], ◌++◌, All, map, slice_set, length, drop, take, min, sum, false, Some, vec_len, vec_capacity, IfSome, IfNone};
-ghost use Rattle.vale_port.specs.Words.{Frame, IsFrameSize, IsSingle, Offer, buffer_count};
+ghost use Rattle.vale_port.specs.Words.{FitsPart, Frame, IsFrameSize, IsSingle, Offer, buffer_count};
 ghost use Rattle.vale_port.specs.Words.{buffers_at_port, buffers_of, completed, frames_in};
 ghost use Rattle.vale_port.specs.Words.{given_by_sync, granted_sizes, held_gots, indices_of};
 ghost use Rattle.vale_port.specs.Words.{is_there, leased, leases_of, out_count, out_of, ready_gots};
@@ -101,6 +101,7 @@ pub fn put_at(
     requires new { OfState (λ p. is_there id.0 (leases_of p.line.lots) ≡ false)
         ports.old.items place }
     requires single { All IsSingle pending.old.items }
+    requires fits { All FitsPart pending.old.items }
     requires room { OfState (λ p. min (length pending.old.items) (line_space p.line) ≤ room)
         ports.old.items place }
     ensures number { OfState (λ p. length result.items

@@ -36,7 +36,7 @@ module _ (P : Task → Type 0) where
   pub behind-all : (n : ℕ) (e : Entry) (user : Machine) (tasks : List Task) → AllByRecursion P user.tasks → AllByRecursion P tasks → AllByRecursion P (with_tasks n e user tasks).tasks
   behind-all n e user [] old all = old
   behind-all n e user (PutFrame name bytes ∷ rest) old all =
-      either-all (is_reset e.ask || not (has_room_at user.own name)) (lines_left rest) (PutFrame name bytes ∷ rest) (left-all rest all.1) all
+      either-all (is_reset e.ask || not (has_room_at user.own name bytes)) (lines_left rest) (PutFrame name bytes ∷ rest) (left-all rest all.1) all
   behind-all n e user (SendFrames name ∷ rest) old all =
       either-all (is_reset e.ask || is_peer_gone e.reply) (lines_left rest) rest (left-all rest all.1) all.1
   behind-all n e user (task ∷ rest) old all = all.1

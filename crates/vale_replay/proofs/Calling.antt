@@ -121,7 +121,7 @@ module _ (pool : ℕ) (past : List Entry) (legal : IsLegal pool past) (x : Sessi
           session-asked (λ (session : SessionId). Open session name tx rx extra) call
           (open-asked pool past x None own name tx rx extra has fits.named fits.tx_fits fits.rx_fits fits.extra_fits) called
       task-asked (PutFrame name bytes ∷ rest) call settled paired fits leaves called =
-          tx-asked name call settled (put-of own name (port_with_name own name) call refl called)
+          tx-asked name call settled (put-of own name bytes (port_with_name own name) call refl called)
       task-asked (SendFrames name ∷ rest) call settled paired fits leaves called =
           tx-asked name call settled (send-of own name (port_with_name own name) call refl called)
       task-asked (TakeFrames name ∷ rest) call settled paired fits leaves called =
@@ -197,7 +197,7 @@ module _ (pool : ℕ) (user : Machine) (call : Ask) (is : user.session ≡ None)
       let comes : call_of_task user Arrive ≡ Some (Enter user.number) = rw is refl in
       same_Some call (Enter user.number) (sym e ∙ comes)
   arrives (OpenPort name tx rx extra ∷ rest) e = absurd (no-session (λ (session : SessionId). Open session name tx rx extra) e)
-  arrives (PutFrame name bytes ∷ rest) e = absurd (no-port (put_call user.own) name e)
+  arrives (PutFrame name bytes ∷ rest) e = absurd (no-port (put_call user.own bytes) name e)
   arrives (SendFrames name ∷ rest) e = absurd (no-port (send_call user.own) name e)
   arrives (TakeFrames name ∷ rest) e = absurd (no-mapped (rx_call user.own) name e)
   arrives (ChangeOwn act ∷ rest) e = absurd cc

@@ -57,7 +57,7 @@ side-named pool s (Some x) shut own name p side named = by-id own name p side.so
 -- the entry of a task's call leaves a task less: a frame that found no slot is put now, or its line
 -- has ended
 worked-fewer : (n : ℕ) (entry : Entry) (before user : Machine) (tasks : List Task) (ask : Ask)
-    → ((name : List ℕ) → has_room_at user.own name ≡ true → option_and_then (put_call user.own) (port_with_name user.own name) ≡ None)
+    → ((name bytes : List ℕ) → has_room_at user.own name bytes ≡ true → option_and_then (put_call user.own bytes) (port_with_name user.own name) ≡ None)
     → call_of_tasks before tasks ≡ Some ask → length (resting (with_tasks n entry user tasks)).tasks + 1 ≤ length tasks
 worked-fewer n entry before user [] ask puts call = absurd cc
 worked-fewer n entry before user (Arrive ∷ rest) ask puts call =
@@ -67,7 +67,7 @@ worked-fewer n entry before user (Depart ∷ rest) ask puts call =
     let fewer = rest-fewer (record user { session = None; tasks = rest }) rest in
     omega (arith, fewer)
 worked-fewer n entry before user (PutFrame name bytes ∷ rest) ask puts call =
-    by (is_reset entry.ask || not (has_room_at user.own name)) refl
+    by (is_reset entry.ask || not (has_room_at user.own name bytes)) refl
   where
     room : (reset has : Bool) → (reset || not has) ≡ false → has ≡ true
     room true has e = absurd cc
@@ -77,14 +77,14 @@ worked-fewer n entry before user (PutFrame name bytes ∷ rest) ask puts call =
     next : Machine
     next = record user { tasks = PutFrame name bytes ∷ rest }
 
-    by : (b : Bool) → (is_reset entry.ask || not (has_room_at user.own name)) ≡ b
+    by : (b : Bool) → (is_reset entry.ask || not (has_room_at user.own name bytes)) ≡ b
         → length (resting (record user { tasks = cond b (lines_left rest) (PutFrame name bytes ∷ rest) })).tasks + 1 ≤ length (PutFrame name bytes ∷ rest)
     by true e =
         let fewer = rest-fewer (record user { tasks = lines_left rest }) (lines_left rest) in
         let left = left-fewer rest in
         omega (arith, fewer, left)
     by false e =
-        let none : call_of_task (record user { tasks = PutFrame name bytes ∷ rest }) (PutFrame name bytes) ≡ None = puts name (room (is_reset entry.ask) (has_room_at user.own name) e) in
+        let none : call_of_task (record user { tasks = PutFrame name bytes ∷ rest }) (PutFrame name bytes) ≡ None = puts name bytes (room (is_reset entry.ask) (has_room_at user.own name bytes) e) in
         let goes : resting (record user { tasks = PutFrame name bytes ∷ rest }) ≡ at_rest (after_task (PutFrame name bytes) (record user { tasks = PutFrame name bytes ∷ rest })) rest =
         ap (λ (o : Option Ask). cond (is_some o) (record user { tasks = PutFrame name bytes ∷ rest }) (at_rest (after_task (PutFrame name bytes) (record user { tasks = PutFrame name bytes ∷ rest })) rest)) none in
         let fewer = rest-fewer (after_task (PutFrame name bytes) (record user { tasks = PutFrame name bytes ∷ rest })) rest in
@@ -232,8 +232,8 @@ module _ (pool : ℕ) (h : List Entry) (user : Machine) (n : ℕ) (after : Machi
       side : KeepsSide pool (standing_of pool (take (n + 1) h)) (with_tasks (n + 1) turn.entry (record user { own = own_next }) user.tasks)
       side = subst (KeepsSide pool (standing_of pool (take (n + 1) h))) answers (answer-side pool h user n after legal within keeps turn)
 
-      puts : (name : List ℕ) → has_room_at own_next name ≡ true → option_and_then (put_call own_next) (port_with_name own_next name) ≡ None
-      puts name = room-none own_next name (λ p named.
+      puts : (name bytes : List ℕ) → has_room_at own_next name bytes ≡ true → option_and_then (put_call own_next bytes) (port_with_name own_next name) ≡ None
+      puts name bytes = room-none own_next name bytes (λ p named.
           side-named pool (standing_of pool (take (n + 1) h)) (with_tasks (n + 1) turn.entry (record user { own = own_next }) user.tasks).session side.shut own_next name p
           (subst (SideOf pool (standing_of pool (take (n + 1) h)) (with_tasks (n + 1) turn.entry (record user { own = own_next }) user.tasks).session side.shut) (keeps-own user.tasks) side.side) named)
 

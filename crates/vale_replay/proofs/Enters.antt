@@ -10,7 +10,8 @@ use Rattle.nm_types.specs.declared.id.PortId.{PortId}
 use Rattle.nm_types.specs.declared.id.SessionId.{SessionId}
 use Rattle.nm_types.specs.Names.{is_pipe_name}
 use Rattle.nm_types.specs.OwnPorts.{OwnRing, OwnPort, OwnState, bytes_at, pushed_in, refusal_in, port_with_name}
-use Rattle.nm_types.specs.OwnEdits.{has_slot}
+use Rattle.nm_types.specs.OwnEdits.{has_slots}
+use Rattle.nm_types.specs.Parts.{slots_of_bytes}
 use Rattle.nm_types.specs.Slots.{pushed_frames}
 use Rattle.vale_entry.specs.declared.entry.Ask.{Ask}
 use Rattle.vale_entry.specs.declared.entry.Ask.TheVariants.{Enter, Open, Send, Sync, Shut, Leave, Put, Get, Watch, Stat}
@@ -54,12 +55,12 @@ either-enters number false one other front back name e = back name e
 tx-enters : (number : ℕ) (s : OwnState) (p : OwnPort) (r : OwnRing)
     → EntersAs number (Some (tx_call s p r))
 tx-enters number s p r =
-    reset-enters number (refusal_in Tx s r) p.id Tx (cond (is_pipe_name p.name) (Put p.id (offered_items s r)) (Send p.id (pushed_frames (bytes_at s) (pushed_in Tx r))))
+    reset-enters number (refusal_in Tx s p r) p.id Tx (cond (is_pipe_name p.name) (Put p.id (offered_items s r)) (Send p.id (pushed_frames (bytes_at s) (pushed_in Tx r))))
     (either-enters number (is_pipe_name p.name) (Put p.id (offered_items s r)) (Send p.id (pushed_frames (bytes_at s) (pushed_in Tx r))) (λ name e. absurd cc) (λ name e. absurd cc))
 
 rx-enters : (number : ℕ) (s : OwnState) (p : OwnPort) → EntersAs number (Some (rx_call s p))
 rx-enters number s p =
-    reset-enters number (refusal_in Rx s p.rx) p.id Rx (cond (is_pipe_name p.name) (Get p.id (back_in p)) (Sync p.id (back_in p)))
+    reset-enters number (refusal_in Rx s p p.rx) p.id Rx (cond (is_pipe_name p.name) (Get p.id (back_in p)) (Sync p.id (back_in p)))
     (either-enters number (is_pipe_name p.name) (Get p.id (back_in p)) (Sync p.id (back_in p)) (λ name e. absurd cc) (λ name e. absurd cc))
 
 room-enters : (number : ℕ) (s : OwnState) (p : OwnPort) (r : OwnRing) (b : Bool)
@@ -76,8 +77,8 @@ task-enters user Arrive = own-enters user.number user.session
 task-enters user (OpenPort name tx rx extra) =
     map-enters user.number (λ (session : SessionId). Open session name tx rx extra) user.session (λ session n e. absurd cc)
 task-enters user (PutFrame name bytes) =
-    then-enters user.number (put_call user.own) (port_with_name user.own name)
-    (λ (p : OwnPort). then-enters user.number (room_call user.own p) p.tx (λ (r : OwnRing). room-enters user.number user.own p r (has_slot r)))
+    then-enters user.number (put_call user.own bytes) (port_with_name user.own name)
+    (λ (p : OwnPort). then-enters user.number (room_call user.own bytes p) p.tx (λ (r : OwnRing). room-enters user.number user.own p r (has_slots (slots_of_bytes bytes) r)))
 task-enters user (SendFrames name) =
     then-enters user.number (send_call user.own) (port_with_name user.own name) (λ (p : OwnPort). map-enters user.number (tx_call user.own p) p.tx (tx-enters user.number user.own p))
 task-enters user (TakeFrames name) = map-enters user.number (rx_call user.own) (port_with_name user.own name) (rx-enters user.number user.own)

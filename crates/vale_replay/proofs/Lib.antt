@@ -34,3 +34,7 @@ pub mod Owing
 pub mod Shares
 pub mod Ending
 pub mod Calling
+pub mod FitRings
+pub mod FitScripts
+pub mod FitTasks
+pub mod FitUsers

@@ -27,7 +27,7 @@ pub call-same : (user : Machine) (tasks : List Task) (task : Task)
 call-same user tasks Arrive = refl
 call-same user tasks _ = refl
 
-abbrev IsRested : Machine → Type 0
+abbrev pub IsRested : Machine → Type 0
 IsRested user = (user.tasks ≡ []) ⊎ (is_some (call_of_tasks user user.tasks) ≡ true)
 
 rest-by : (user : Machine) (task : Task) (tasks : List Task) (b : Bool) → is_some (call_of_task user task) ≡ b
@@ -36,11 +36,11 @@ rest-by : (user : Machine) (task : Task) (tasks : List Task) (b : Bool) → is_s
 rest-by user task tasks true e rest = inr (ap is_some (call-same user (task ∷ tasks) task) ∙ e)
 rest-by user task tasks false e rest = rest
 
-rest-rested : (user : Machine) (tasks : List Task) → IsRested (at_rest user tasks)
+pub rest-rested : (user : Machine) (tasks : List Task) → IsRested (at_rest user tasks)
 rest-rested user [] = inl refl
 rest-rested user (task ∷ tasks) = rest-by user task tasks (is_some (call_of_task user task)) refl (rest-rested (after_task task user) tasks)
 
-turns-rested : (pool : ℕ) (h : List Entry) (before : Machine) (ns : List ℕ) (after : Machine)
+pub turns-rested : (pool : ℕ) (h : List Entry) (before : Machine) (ns : List ℕ) (after : Machine)
     → IsRested before → TakesTurns pool h before ns after → IsRested after
 turns-rested pool h before [] after rested turns = subst IsRested (sym turns) rested
 turns-rested pool h before (n ∷ ns) after rested turns =
@@ -48,7 +48,7 @@ turns-rested pool h before (n ∷ ns) after rested turns =
     let next = answered n turn.entry (arrivals_of (standing_before pool h n) turn.entry.ask turn.entry.reply) before in
     turns-rested pool h turns.0 ns after (subst IsRested (sym turn.goes_on) (rest-rested next next.tasks)) turns.1.1
 
-rested-done : (pool : ℕ) (h : List Entry) (user : Machine) → IsRested user → NeedsNoCall pool h user → user.tasks ≡ []
+pub rested-done : (pool : ℕ) (h : List Entry) (user : Machine) → IsRested user → NeedsNoCall pool h user → user.tasks ≡ []
 rested-done pool h user (inl none) ended = none
 rested-done pool h user (inr some) ended =
     let none = or-second (option_and_then (settling_call (standing_of pool h).world) user.session) (call_of_tasks user user.tasks) ended in
@@ -57,7 +57,7 @@ rested-done pool h user (inr some) ended =
 
 -- What it owes nothing of at the end of its unit it owed nothing of behind its own last entry.
 
-owes-first : (pool : ℕ) (session : Option SessionId) → OwesNothing pool [] session
+pub owes-first : (pool : ℕ) (session : Option SessionId) → OwesNothing pool [] session
 owes-first pool None = refl
 owes-first pool (Some x) = refl
 
@@ -146,7 +146,7 @@ inside-list first last (n ∷ ns) inside = (
   inside-list first last ns (λ b some. inside b (let all = count_of-cons b n ns in omega (arith, all, some))),
 )
 
-inside-lists : (first last : ℕ) (lists : List (List ℕ)) → ((b : ℕ) → 1 ≤ times_among b lists → IsWithin first last b)
+pub inside-lists : (first last : ℕ) (lists : List (List ℕ)) → ((b : ℕ) → 1 ≤ times_among b lists → IsWithin first last b)
     → AllByRecursion (AllByRecursion (IsWithin first last)) lists
 inside-lists first last [] inside = tt
 inside-lists first last (ns ∷ lists) inside = (
@@ -195,7 +195,7 @@ record AreTurns (pool : ℕ) (h : List Entry) (cast : Cast) (first : ℕ) (units
   split : AreSplit first last (lists_in lists)
   forward : first ≤ last
 
-split-none : (first last : ℕ) → last ≡ first → AreSplit first last []
+pub split-none : (first last : ℕ) → last ≡ first → AreSplit first last []
 split-none first last same =
     split-from first last [] (λ b low high. absurd (omega (arith, low, high, same))) (λ b low. refl) (λ b high. refl)
 
@@ -206,7 +206,7 @@ split-above first last lists b split past = by_some (cases_lt 0 (times_among b l
     by_some (inl some) = let in' = (split-in first last lists b split (omega (arith, some))).1 in absurd (omega (arith, in', past))
     by_some (inr none) = omega (arith, none)
 
-split-both : (first number last : ℕ) (lists more : List (List ℕ)) → first ≤ number → number ≤ last
+pub split-both : (first number last : ℕ) (lists more : List (List ℕ)) → first ≤ number → number ≤ last
     → AreSplit first number lists → AreSplit number last more → AreSplit first last (lists ++ more)
 split-both first number last lists more low high front back = split-from first last (lists ++ more) once below above
   where

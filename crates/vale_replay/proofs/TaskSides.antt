@@ -3,6 +3,7 @@ use Rattle.std.proofs.Common.{Bool, true, false, cond, not, ℕ, zero, suc, ◌-
 use Rattle.std.specs.Prelude.{◌==◌, replicate, flat_map}
 use Rattle.nm_types.specs.declared.id.SessionId.{SessionId}
 use Rattle.nm_types.specs.OwnPorts.{OwnPort, OwnState, empty_own, port_with_name}
+use Rattle.nm_types.specs.Names.{is_pipe_name}
 use Rattle.nm_types.specs.OwnEdits.{with_positions, with_all_back, with_slots_swapped, with_frame, with_forwarded, with_extra_link}
 use Rattle.vale_script.specs.declared.script.Act.{Act}
 use Rattle.vale_script.specs.declared.script.Act.TheVariants as acts
@@ -12,7 +13,7 @@ use Rattle.vale_own.specs.Side.{IsSoundSideOf}
 use Rattle.vale_own.specs.SideEdits.{KeepsSides}
 use Rattle.vale_own.proofs.SideEditing.{edits-keep}
 use Rattle.vale_replay.specs.Edits.{change_found, at_port, field_written, poked, changed_by}
-use Rattle.vale_replay.specs.Tasks.{Task, PutFrame, SendFrames, TakeFrames, ChangeOwn, ShutPort, FinishPort, Depart, EndLine, lines_left, fits_a_buffer, frame_of_put, played_before_sync, tasks_of, tasks_of_line, tasks_of_lines}
+use Rattle.vale_replay.specs.Tasks.{Task, PutFrame, SendFrames, TakeFrames, ChangeOwn, ShutPort, FinishPort, Depart, EndLine, lines_left, fits_to_play, frame_of_put, played_before_sync, tasks_of, tasks_of_line, tasks_of_lines}
 use Rattle.vale_replay.specs.Machine.{Machine, call_of_task, after_task, at_rest, resting, closing_of, closing_tasks}
 
 -- Edits.
@@ -30,7 +31,7 @@ port-keeps name change keeps pool session shut own s of =
 act-keeps : (act : Act) → KeepsSides (changed_by act)
 act-keeps (acts.Rx name keep) = port-keeps name with_all_back edits-keep.all_back
 act-keeps (acts.Fwd from to count) =
-    port-keeps from (λ id. at_port to (with_forwarded count id)) (λ id. port-keeps to (with_forwarded count id) (λ other. edits-keep.forwarded count id other))
+    port-keeps from (λ id. at_port to (with_forwarded (is_pipe_name to) count id)) (λ id. port-keeps to (with_forwarded (is_pipe_name to) count id) (λ other. edits-keep.forwarded (is_pipe_name to) count id other))
 act-keeps (acts.Poke name side slot field value) =
     port-keeps name (poked side slot field value) (λ id. edits-keep.slot_field side id slot (field_written field value))
 act-keeps (acts.Move name side head cur) = port-keeps name (λ id. with_positions side id head cur) (λ id. edits-keep.positions side id head cur)
@@ -181,7 +182,7 @@ played-paired name batch left (bytes ∷ frames) =
 
 act-paired : (records : List ℕ → List (List ℕ)) (act : Act) → ArePaired (tasks_of records act)
 act-paired records (acts.Put name count to from len fill) = puts-paired count name (frame_of_put to from len fill)
-act-paired records (acts.Play name file batch) = played-paired name batch batch (filter fits_a_buffer (records file))
+act-paired records (acts.Play name file batch) = played-paired name batch batch (filter (fits_to_play name) (records file))
 act-paired records (acts.Rx name keep) = next-paired keep (TakeFrames name ∷ []) (ChangeOwn (acts.Rx name keep) ∷ TakeFrames name ∷ []) tt tt
 act-paired records (acts.Close name) = (refl, tt)
 act-paired records _ = tt

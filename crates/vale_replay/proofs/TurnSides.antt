@@ -14,7 +14,8 @@ use Rattle.nm_types.specs.declared.id.Sides.{Sides}
 use Rattle.nm_types.specs.Names.{is_pipe_name}
 use Rattle.nm_types.specs.Slots.{pushed_frames}
 use Rattle.nm_types.specs.OwnPorts.{OwnRing, OwnPort, OwnState, empty_own, bytes_at, pushed_in, refusal_in, buffers_in, port_with_name, port_with_id}
-use Rattle.nm_types.specs.OwnEdits.{has_slot}
+use Rattle.nm_types.specs.OwnEdits.{has_slots}
+use Rattle.nm_types.specs.Parts.{slots_of_bytes}
 use Rattle.nm_types.proofs.Tests.{not_false, both_are}
 use Rattle.vale_entry.specs.declared.entry.Ask.{Ask}
 use Rattle.vale_entry.specs.declared.entry.Ask.TheVariants.{Enter, Open, Send, Sync, Shut, Leave, Put, Get, Watch, Stat}
@@ -52,16 +53,16 @@ room-of : (own : OwnState) (p : OwnPort) (r : OwnRing) (b : Bool) (ask : Ask)
 room-of own p r true ask e = absurd cc
 room-of own p r false ask e = same_Some (tx_call own p r) ask e
 
-put-ring : (own : OwnState) (name : List ℕ) (p : OwnPort) (tx : Option OwnRing) (ask : Ask)
+put-ring : (own : OwnState) (name bytes : List ℕ) (p : OwnPort) (tx : Option OwnRing) (ask : Ask)
     → port_with_name own name ≡ Some p → p.tx ≡ tx
-    → option_and_then (room_call own p) tx ≡ Some ask → TxOf own name ask
-put-ring own name p None ask named has e = absurd cc
-put-ring own name p (Some r) ask named has e = record { port = p; named = named; ring = r; has = has; is = room-of own p r (has_slot r) ask e }
+    → option_and_then (room_call own bytes p) tx ≡ Some ask → TxOf own name ask
+put-ring own name bytes p None ask named has e = absurd cc
+put-ring own name bytes p (Some r) ask named has e = record { port = p; named = named; ring = r; has = has; is = room-of own p r (has_slots (slots_of_bytes bytes) r) ask e }
 
-pub put-of : (own : OwnState) (name : List ℕ) (found : Option OwnPort) (ask : Ask)
-    → port_with_name own name ≡ found → option_and_then (put_call own) found ≡ Some ask → TxOf own name ask
-put-of own name None ask named e = absurd cc
-put-of own name (Some p) ask named e = put-ring own name p p.tx ask named refl e
+pub put-of : (own : OwnState) (name bytes : List ℕ) (found : Option OwnPort) (ask : Ask)
+    → port_with_name own name ≡ found → option_and_then (put_call own bytes) found ≡ Some ask → TxOf own name ask
+put-of own name bytes None ask named e = absurd cc
+put-of own name bytes (Some p) ask named e = put-ring own name bytes p p.tx ask named refl e
 
 send-ring : (own : OwnState) (name : List ℕ) (p : OwnPort) (tx : Option OwnRing) (ask : Ask)
     → port_with_name own name ≡ Some p → p.tx ≡ tx
@@ -109,11 +110,11 @@ tx-shut_by (Some fault) id b put send shut one two side = refl
 
 tx-shut : (own : OwnState) (p : OwnPort) (r : OwnRing) (shut : Option ℕ)
     → shut_after (kept_ask (tx_call own p r)) shut ≡ shut
-tx-shut own p r shut = tx-shut_by (refusal_in Tx own r) p.id (is_pipe_name p.name) (Put p.id (offered_items own r)) (Send p.id (pushed_frames (bytes_at own) (pushed_in Tx r))) shut refl refl Tx
+tx-shut own p r shut = tx-shut_by (refusal_in Tx own p r) p.id (is_pipe_name p.name) (Put p.id (offered_items own r)) (Send p.id (pushed_frames (bytes_at own) (pushed_in Tx r))) shut refl refl Tx
 
 rx-shut : (own : OwnState) (p : OwnPort) (shut : Option ℕ)
     → shut_after (kept_ask (rx_call own p)) shut ≡ shut
-rx-shut own p shut = tx-shut_by (refusal_in Rx own p.rx) p.id (is_pipe_name p.name) (Get p.id (back_in p)) (Sync p.id (back_in p)) shut refl refl Rx
+rx-shut own p shut = tx-shut_by (refusal_in Rx own p p.rx) p.id (is_pipe_name p.name) (Get p.id (back_in p)) (Sync p.id (back_in p)) shut refl refl Rx
 
 -- An entry of the user's session.
 
@@ -230,8 +231,8 @@ put-turn : (pool : ℕ) (past : List Entry) (user : Machine) (name bytes : List 
     → SideOf pool (standing_of pool past) user.session None user.own → ArePaired rest → call_of_task user (PutFrame name bytes) ≡ Some ask → Steps pool past user ask made (PutFrame name bytes ∷ rest)
 put-turn pool past user name bytes rest ask made m is side paired call = record {
   shut = None;
-  side = tx-side pool past user name ask made m is side (put-of user.own name (port_with_name user.own name) ask refl call);
-  order = next-paired (is_reset (kept_ask ask) || not (has_room_at (came_by (standing_of pool past) ask made user.own (length past + 1)) name)) (lines_left rest) (PutFrame name bytes ∷ rest) (left-paired rest paired) paired;
+  side = tx-side pool past user name ask made m is side (put-of user.own name bytes (port_with_name user.own name) ask refl call);
+  order = next-paired (is_reset (kept_ask ask) || not (has_room_at (came_by (standing_of pool past) ask made user.own (length past + 1)) name bytes)) (lines_left rest) (PutFrame name bytes ∷ rest) (left-paired rest paired) paired;
 }
 
 send-turn : (pool : ℕ) (past : List Entry) (user : Machine) (name : List ℕ) (rest : List Task) (ask : Ask) (made : Outcome)
@@ -422,7 +423,7 @@ enter-turn pool past user (Arrive ∷ rest) ask made m is own new paired call =
     let arrives : call_of_task user Arrive ≡ Some (Enter user.number) = rw is refl in
     enter-side pool past user rest ask made user.number m (same_Some (Enter user.number) ask (sym arrives ∙ call)) own new paired
 enter-turn pool past user (OpenPort name tx rx extra ∷ rest) ask made m is own new paired call = absurd (none-session (λ (session : SessionId). Open session name tx rx extra) user.session ask is call)
-enter-turn pool past user (PutFrame name bytes ∷ rest) ask made m is own new paired call = absurd (none-called (put_call user.own) pool user.own name ask own call)
+enter-turn pool past user (PutFrame name bytes ∷ rest) ask made m is own new paired call = absurd (none-called (put_call user.own bytes) pool user.own name ask own call)
 enter-turn pool past user (SendFrames name ∷ rest) ask made m is own new paired call = absurd (none-called (send_call user.own) pool user.own name ask own call)
 enter-turn pool past user (TakeFrames name ∷ rest) ask made m is own new paired call = absurd (none-mapped (rx_call user.own) pool user.own name ask own call)
 enter-turn pool past user (ChangeOwn act ∷ rest) ask made m is own new paired call = absurd cc
@@ -484,12 +485,12 @@ reset-plain (Some fault) id side b one other front back = record { settles = ref
 
 tx-plain : (own : OwnState) (p : OwnPort) (r : OwnRing) → IsPlain (tx_call own p r)
 tx-plain own p r =
-    reset-plain (refusal_in Tx own r) p.id Tx (is_pipe_name p.name) (Put p.id (offered_items own r)) (Send p.id (pushed_frames (bytes_at own) (pushed_in Tx r)))
+    reset-plain (refusal_in Tx own p r) p.id Tx (is_pipe_name p.name) (Put p.id (offered_items own r)) (Send p.id (pushed_frames (bytes_at own) (pushed_in Tx r)))
     (record { settles = refl; enters = refl }) (record { settles = refl; enters = refl })
 
 rx-plain : (own : OwnState) (p : OwnPort) → IsPlain (rx_call own p)
 rx-plain own p =
-    reset-plain (refusal_in Rx own p.rx) p.id Rx (is_pipe_name p.name) (Get p.id (back_in p)) (Sync p.id (back_in p)) (record { settles = refl; enters = refl }) (record { settles = refl; enters = refl })
+    reset-plain (refusal_in Rx own p p.rx) p.id Rx (is_pipe_name p.name) (Get p.id (back_in p)) (Sync p.id (back_in p)) (record { settles = refl; enters = refl }) (record { settles = refl; enters = refl })
 
 mapped-plain : {X : Type 0} (f : X → Ask) (o : Option X) (ask : Ask) → ((x : X) → IsPlain (f x))
     → option_map f o ≡ Some ask → IsPlain ask
@@ -505,7 +506,7 @@ tasks-plain user x (Arrive ∷ rest) ask is call =
     absurd cc
 tasks-plain user x (OpenPort name tx rx extra ∷ rest) ask is call = mapped-plain (λ (session : SessionId). Open session name tx rx extra) user.session ask (λ s. record { settles = refl; enters = refl }) call
 tasks-plain user x (PutFrame name bytes ∷ rest) ask is call =
-    let t = put-of user.own name (port_with_name user.own name) ask refl call in
+    let t = put-of user.own name bytes (port_with_name user.own name) ask refl call in
     subst IsPlain t.is (tx-plain user.own t.port t.ring)
 tasks-plain user x (SendFrames name ∷ rest) ask is call =
     let t = send-of user.own name (port_with_name user.own name) ask refl call in

@@ -6,7 +6,8 @@ use Rattle.std.specs.Option.{option_or, option_map_or}
 use Rattle.nm_types.specs.declared.id.PortId.{PortId}
 use Rattle.nm_types.specs.declared.id.SessionId.{SessionId}
 use Rattle.nm_types.specs.OwnPorts.{OwnPort, OwnRing, OwnState, Arrival, empty_own, port_with_name}
-use Rattle.nm_types.specs.OwnEdits.{has_slot, has_room, with_frame}
+use Rattle.nm_types.specs.OwnEdits.{has_slots, has_room, with_frame}
+use Rattle.nm_types.specs.Parts.{slots_of_bytes}
 use Rattle.vale_entry.specs.declared.entry.Ask.{Ask}
 use Rattle.vale_entry.specs.declared.entry.Ask.TheVariants.{Enter, Open, Grant, Done, Reset, Shut, Leave, Watch, Stat}
 use Rattle.vale_entry.specs.declared.entry.Reply.{Reply}
@@ -50,12 +51,12 @@ abbrev pub enter_call : ℕ → Option SessionId → Option Ask
 enter_call number None = Some (Enter number)
 enter_call number (Some session) = None
 
--- a frame is put where the transmit ring has a slot for it; else the ring is synced first
-abbrev pub room_call : OwnState → OwnPort → OwnRing → Option Ask
-room_call s p r = if has_slot r then None else Some (tx_call s p r)
+-- a frame is put where the transmit ring has slots for it; else the ring is synced first
+abbrev pub room_call : OwnState → List ℕ → OwnPort → OwnRing → Option Ask
+room_call s bytes p r = if has_slots (slots_of_bytes bytes) r then None else Some (tx_call s p r)
 
-abbrev pub put_call : OwnState → OwnPort → Option Ask
-put_call s p = option_and_then (room_call s p) p.tx
+abbrev pub put_call : OwnState → List ℕ → OwnPort → Option Ask
+put_call s bytes p = option_and_then (room_call s bytes p) p.tx
 
 abbrev pub send_call : OwnState → OwnPort → Option Ask
 send_call s p = option_map (tx_call s p) p.tx
@@ -65,7 +66,7 @@ call_of_task user Arrive = enter_call user.number user.session
 call_of_task user (OpenPort name tx rx extra) =
     option_map (λ (session : SessionId). Open session name tx rx extra) user.session
 call_of_task user (PutFrame name bytes) =
-    option_and_then (put_call user.own) (port_with_name user.own name)
+    option_and_then (put_call user.own bytes) (port_with_name user.own name)
 call_of_task user (SendFrames name) =
     option_and_then (send_call user.own) (port_with_name user.own name)
 call_of_task user (TakeFrames name) = option_map (rx_call user.own) (port_with_name user.own name)
@@ -149,15 +150,15 @@ abbrev pub is_peer_gone : Reply → Bool
 is_peer_gone PeerGone = true
 is_peer_gone _ = false
 
-abbrev pub has_room_at : OwnState → List ℕ → Bool
-has_room_at s name =
-    option_map_or (λ (p : OwnPort). has_room s p.id.0) (port_with_name s name) false
+abbrev pub has_room_at : OwnState → List ℕ → List ℕ → Bool
+has_room_at s name bytes =
+    option_map_or (λ (p : OwnPort). has_room s p.id.0 bytes) (port_with_name s name) false
 
 -- a frame whose ring was synced is put now; the line ends where the sync was refused, and where the
--- ring has no slot still
+-- ring has too few slots still
 abbrev pub tasks_after_room : Entry → OwnState → List ℕ → List ℕ → List Task → List Task
 tasks_after_room entry s name bytes rest =
-    if is_reset entry.ask || not (has_room_at s name) then lines_left rest
+    if is_reset entry.ask || not (has_room_at s name bytes) then lines_left rest
     else PutFrame name bytes ∷ rest
 
 -- a line ends where its sync is refused, or finds that the other end of a pipe is gone

@@ -11,8 +11,9 @@ use Rattle.vale_entry.specs.declared.entry.Entry.{Entry}
 use Rattle.vale_entry.specs.Legal.{fits_u32}
 use Rattle.vale_own.specs.SideAsks.{HasFields, MayAsk}
 use Rattle.vale_script.specs.Script.{Program}
+use Rattle.vale_script.specs.Sound.{IsSound}
 use Rattle.vale_replay.specs.Machine.{Machine}
-use Rattle.vale_replay.specs.Replay.{ComesTo}
+use Rattle.vale_replay.specs.Replay.{Cast, ComesTo, IsUnderWay}
 use Rattle.vale_replay.specs.Tasks.{Captures, Task, OpenPort, WatchPort, Depart}
 
 -- What a machine's definitions leave open, since they speak of numbers of any size: the positions and
@@ -70,3 +71,19 @@ CallsMayBeMade =
     → IsPoolSize program.pool
     → (comes : ComesTo program captures history user call)
     → HasFit comes.now → MayCall program.pool history comes.now comes.now.session call
+
+-- What the rules of a script ask of its lines is enough: so each user of an accepted script fits,
+-- wherever a history is under way,
+abbrev pub UsersFit : Type 0
+UsersFit =
+    (program : Program) (captures : Captures) (history : List Entry) (nows : Cast)
+    → IsSound program → IsUnderWay program captures history nows
+    → AllByRecursion HasFit nows.users
+
+-- and each call to which a history of an accepted script comes may be made.
+abbrev pub AcceptedCallsMayBeMade : Type 0
+AcceptedCallsMayBeMade =
+    (program : Program) (captures : Captures) (history : List Entry) (user : ℕ) (call : Ask)
+    → IsSound program
+    → (comes : ComesTo program captures history user call)
+    → MayCall program.pool history comes.now comes.now.session call

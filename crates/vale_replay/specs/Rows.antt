@@ -106,7 +106,7 @@ unfolding transcript_of
 forwarded = refl
 
 -- Users of a block, one after another, as the walk has them. A history may hold their entries in another order
--- too; that the walk's plays the block is no theorem (`WalksPlay` speaks of scripts without blocks).
+-- too.
 block : transcript_of [] (codes "pool 64\nuser a\nuser b\nopen a vale0:a 4 4\nopen b vale0:b 4 4\npar\nput a vale0:a 2 ff:ff:ff:ff:ff:ff 02:00:00:00:00:0a 14 01\ntx a vale0:a\nrx b vale0:b\nend\n") ≡ codes "vale 2 pool 64\n1 enter 1\n2 enter 2\n3 1 open vale0:a 4 4 0 = ok\n4 2 open vale0:b 4 4 0 = ok\n5 1 send 3 ffffffffffff02000000000a88b5,ffffffffffff02000000000a88b5 = short 0 lone 0 to 4*2\n6 1 grant 5 4 = given 2 full 0 gone 0\n7 1 done 6\n8 2 sync 4 - = gave 2 to -\n9 1 shut 3\n10 1 finish 3 2-5 found 0 astray 0 = unread 0\n11 1 leave\n12 2 shut 4\n13 2 finish 4 10-15 found 0 astray 0 = unread 0\n14 2 leave\nend 14 free 64\n"
 unfolding transcript_of
 block = refl
@@ -115,13 +115,12 @@ abbrev small_frame : List ℕ
 small_frame = 255 ∷ 255 ∷ 255 ∷ 255 ∷ 255 ∷ 255 ∷ 2 ∷ 0 ∷ 0 ∷ 0 ∷ 0 ∷ 10 ∷ 136 ∷ 181 ∷ []
 
 abbrev capture : List (List ℕ)
-capture = small_frame ∷ (small_frame ++ 1 ∷ []) ∷ replicate 2049 0 ∷ small_frame ∷ (7 ∷ []) ∷ []
+capture = small_frame ∷ (small_frame ++ 1 ∷ []) ∷ small_frame ∷ (7 ∷ []) ∷ []
 
 abbrev playing_script : List ℕ
 playing_script = codes "pool 64\nuser a\nuser b\nopen a vale0:a 4 4\nopen b vale0:b 4 6\nsave b vale0:b out.pcap\nplay a vale0:a in.pcap 3\nrx b vale0:b\n"
 
--- A capture is played with a sync behind every three frames and behind the last; one that fits no buffer is
--- passed over.
+-- A capture is played with a sync behind every three frames and behind the last.
 played_capture : transcript_of (capture ∷ []) playing_script ≡ codes "vale 2 pool 64\n1 enter 1\n2 enter 2\n3 1 open vale0:a 4 4 0 = ok\n4 2 open vale0:b 4 6 0 = ok\n5 1 send 3 ffffffffffff02000000000a88b5,ffffffffffff02000000000a88b501,ffffffffffff02000000000a88b5 = short 0 lone 0 to 4*3\n6 1 grant 5 4 = given 3 full 0 gone 0\n7 1 done 6\n8 1 send 3 07 = short 1 lone 0 to -\n9 2 sync 4 - = gave 3 to -\n10 1 shut 3\n11 1 finish 3 2-5 found 0 astray 0 = unread 0\n12 1 leave\n13 2 shut 4\n14 2 finish 4 10-16 found 0 astray 0 = unread 0\n15 2 leave\nend 15 free 64\n"
 unfolding transcript_of
 played_capture = refl
@@ -179,3 +178,18 @@ receive_positions = refl
 three_ports : transcript_of [] (codes "pool 12\nuser a\nopen a vale0:a 2 2\nopen a vale0:b 2 2\nopen a vale0:c 2 2\nhex a vale0:a ffffffffffff02000000000a88b5\ntx a vale0:a\nrx a vale0:b\nfwd a vale0:b vale0:a 9\ntx a vale0:a\nrx a vale0:b\n") ≡ codes "vale 2 pool 12\n1 enter 1\n2 1 open vale0:a 2 2 0 = ok\n3 1 open vale0:b 2 2 0 = ok\n4 1 open vale0:c 2 2 0 = ok\n5 1 send 2 ffffffffffff02000000000a88b5 = short 0 lone 0 to 3*1,4*1\n6 1 grant 5 3 = given 1 full 0 gone 0\n7 1 done 6\n8 1 grant 5 4 = given 1 full 0 gone 0\n9 1 done 8\n10 1 sync 3 - = gave 1 to -\n11 1 send 2 ffffffffffff02000000000a88b5 = short 0 lone 0 to 3*1,4*1\n12 1 grant 11 3 = given 0 full 1 gone 0\n13 1 grant 11 4 = given 0 full 1 gone 0\n14 1 sync 3 3 = gave 0 to -\n15 1 shut 2\n16 1 finish 2 2,8 found 0 astray 0 = unread 0\n17 1 shut 3\n18 1 finish 3 6-7 found 0 astray 0 = unread 0\n19 1 shut 4\n20 1 finish 4 10-11 found 0 astray 0 = unread 1\n21 1 leave\nend 21 free 12\n"
 unfolding transcript_of
 three_ports = refl
+
+-- A record that is longer than a buffer is passed over at a pipe's end.
+passed_over : transcript_of ((small_frame ∷ replicate 2049 0 ∷ (small_frame ++ 1 ∷ []) ∷ []) ∷ []) (codes "pool 12\nuser a\nopen a pipe0{ 3 2\nopen a pipe0} 2 3\nplay a pipe0{ f 3\n") ≡ codes "vale 2 pool 12\n1 enter 1\n2 1 open pipe0{ 3 2 0 = ok\n3 1 open pipe0} 2 3 0 = ok\n4 1 put 2 2 = took 2:ffffffffffff02000000000a88b5,3:ffffffffffff02000000000a88b501 to -\n5 1 shut 2\n6 1 finish 2 9-10,4 found 0 astray 0 = unread 0\n7 1 shut 3\n8 1 finish 3 7-8 found 0 astray 0 = unread 2\n9 1 leave\nend 9 free 12\n"
+unfolding transcript_of
+passed_over = refl
+
+-- A slot that is marked as going on makes one frame of two; the last one pushed may not be so marked.
+marked_slots : transcript_of [] (codes "pool 64\nuser a\nopen a vale0:a 4 4\nput a vale0:a 2 ff:ff:ff:ff:ff:ff 02:00:00:00:00:0a 14 00\npoke a vale0:a tx 0 flags 32\ntx a vale0:a\nput a vale0:a 1 ff:ff:ff:ff:ff:ff 02:00:00:00:00:0a 14 00\npoke a vale0:a tx 2 flags 32\ntx a vale0:a\n") ≡ codes "vale 2 pool 64\n1 enter 1\n2 1 open vale0:a 4 4 0 = ok\n3 1 send 2 ffffffffffff02000000000a88b5ffffffffffff02000000000a88b5 = short 0 lone 1 to -\n4 1 reset 2 tx fragment 2\n5 1 shut 2\n6 1 finish 2 2-5 found 0 astray 0 = unread 0\n7 1 leave\nend 7 free 64\n"
+unfolding transcript_of
+marked_slots = refl
+
+-- A frame of two slots is not forwarded to a pipe's end, and whole to a port of a switch.
+forwarded_whole : transcript_of [] (codes "pool 64\nuser a\nopen a vale0:a 4 4\nopen a vale0:b 4 4\nopen a pipe0{ 4 4\nput a vale0:a 2 ff:ff:ff:ff:ff:ff 02:00:00:00:00:0a 14 00\ntx a vale0:a\nrx a vale0:b\npoke a vale0:b rx 0 flags 32\nfwd a vale0:b pipe0{ 9\ntx a pipe0{\nfwd a vale0:b vale0:b 9\ntx a vale0:b\n") ≡ codes "vale 2 pool 64\n1 enter 1\n2 1 open vale0:a 4 4 0 = ok\n3 1 open vale0:b 4 4 0 = ok\n4 1 open pipe0{ 4 4 0 = ok\n5 1 send 2 ffffffffffff02000000000a88b5,ffffffffffff02000000000a88b5 = short 0 lone 0 to 3*2\n6 1 grant 5 3 = given 2 full 0 gone 0\n7 1 done 6\n8 1 sync 3 - = gave 2 to -\n9 1 put 4 0 = peergone\n10 1 send 3 ffffffffffff02000000000a88b5ffffffffffff02000000000a88b5 = short 0 lone 0 to 2*1\n11 1 grant 10 2 = given 1 full 0 gone 0\n12 1 done 11\n13 1 shut 2\n14 1 finish 2 2-5 found 0 astray 0 = unread 1\n15 1 shut 3\n16 1 finish 3 14-15,12-13,10-11 found 0 astray 0 = unread 0\n17 1 shut 4\n18 1 finish 4 18-21 found 0 astray 0 = unread 0\n19 1 leave\nend 19 free 64\n"
+unfolding transcript_of
+forwarded_whole = refl

@@ -1,6 +1,7 @@
 -- What a line has its user do, one step after another.
 use Rattle.std.specs.Prelude.{ℕ, ◌==◌, ◌-◌, if◌then◌else◌, nat_le, Bool, List, [], ◌∷◌, ◌++◌, length, take, filter, flat_map, replicate, bytes_eq}
-use Rattle.nm_types.specs.Limits.{buffer_bytes}
+use Rattle.nm_types.specs.Limits.{buffer_bytes, most_frame_bytes}
+use Rattle.nm_types.specs.Names.{is_pipe_name}
 use Rattle.nm_types.specs.declared.id.Mac.{Mac}
 use Rattle.nm_types.specs.declared.id.Sides.{Sides}
 use Rattle.vale_script.specs.declared.script.Act.{Act}
@@ -38,9 +39,13 @@ records_of (name ∷ names) (records ∷ captures) file =
 abbrev pub frame_of_put : Mac → Mac → ℕ → ℕ → List ℕ
 frame_of_put to from len fill = take len (to.0 ++ (from.0 ++ (136 ∷ 181 ∷ replicate len fill)))
 
--- records that fit a buffer are put, and longer ones passed over
-abbrev pub fits_a_buffer : List ℕ → Bool
-fits_a_buffer bytes = nat_le (length bytes) buffer_bytes
+-- the bytes of a record that is played at a port of this name, at most: a pipe's end takes a buffer's
+abbrev pub most_to_play : List ℕ → ℕ
+most_to_play name = if is_pipe_name name then buffer_bytes else most_frame_bytes
+
+-- records of so many bytes are put, and longer ones passed over
+abbrev pub fits_to_play : List ℕ → List ℕ → Bool
+fits_to_play name bytes = nat_le (length bytes) (most_to_play name)
 
 -- Frames one after another, with a sync behind each `batch` of them and behind the last one; so
 -- many are still to be put before the next sync.
@@ -51,7 +56,7 @@ played_before_sync name batch left (bytes ∷ frames) =
     else PutFrame name bytes ∷ played_before_sync name batch (left - 1) frames
 
 abbrev pub played : List ℕ → ℕ → List (List ℕ) → List Task
-played name batch frames = played_before_sync name batch batch (filter fits_a_buffer frames)
+played name batch frames = played_before_sync name batch batch (filter (fits_to_play name) frames)
 
 -- what a line has its user do; `records` gives the records of a file
 abbrev pub tasks_of : (List ℕ → List (List ℕ)) → Act → List Task

@@ -9,7 +9,6 @@ use Rattle.vale_entry.specs.Legal.{Standing, after, fresh_standing}
 use Rattle.vale_script.specs.Script.{Program}
 use Rattle.vale_replay.specs.Machine.{Machine, next_call, answered, resting}
 use Rattle.vale_replay.specs.Replay.{Cast, UnitShare, ScriptUnit, HasCaptures, HasPlayed, caller_of, cast_of, entry_made, starting, units_of, with_user}
-use Rattle.vale_replay.specs.Laws.{HasNoBlock}
 use Rattle.vale_replay.specs.Tasks.{Captures}
 
 -- what stands, and where a user has come
@@ -82,10 +81,10 @@ walk count program captures =
     walk_units count (record { standing = fresh_standing program.pool; cast = cast_of program })
     (units_of program captures)
 
--- a walk to the end of a script without blocks is the history that plays it
+-- a walk to the end of a script is a history that plays it, with blocks too
 abbrev pub WalksPlay : Type 0
 WalksPlay =
     (count : ℕ) (program : Program) (captures : Captures) (stage : Stage)
-    → HasNoBlock program → HasCaptures program captures
+    → HasCaptures program captures
     → walk count program captures ≡ Some stage
     → HasPlayed program captures stage.standing.past stage.cast

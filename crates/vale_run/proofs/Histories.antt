@@ -1,6 +1,7 @@
 -- How what a run promises of its history comes from the play of its script.
 use Rattle.std.proofs.Common.{ℕ, ◌+◌, ◌<◌, ◌≤◌, ◌^◌, ◌≡◌, inl, inr, List, [], ◌∷◌, ◌++◌, length, map, take, Option, Result, refl, sym, ◌∙◌, ap, subst, arith}
 use Rattle.nm_io.specs.Files.{Files}
+use Rattle.nm_types.specs.Limits.{most_entries, most_bytes}
 use Rattle.nm_types.specs.declared.limits.Limits.{Limits}
 use Rattle.nm_types.specs.declared.fault.Part.{Part}
 use Rattle.nm_types.specs.declared.fault.Part.TheVariants as parts
@@ -18,6 +19,7 @@ use Rattle.vale_book.specs.Recorded.{Recorded, standing, IsRefusal, HadRoom}
 use Rattle.vale_fabric.specs.declared.kept.Fixed.{Fixed}
 use Rattle.vale_fabric.specs.Fabrics.{record_in}
 use Rattle.vale_script.specs.Script.{Program}
+use Rattle.vale_script.specs.Sound.{IsSound}
 use Rattle.vale_captures.specs.Inputs.{InputFile, AreInputs, name_of, frames_of}
 use Rattle.vale_captures.specs.Outputs.{OutputFile}
 use Rattle.vale_replay.specs.Replay.{Cast, HasPlayed}
@@ -152,15 +154,16 @@ module _ (limits : Limits) (fixed : Fixed) (program : Program) (played : List In
   roomy-of : (count : ℕ) → HadRoom (run_record program fixed.region limits (take count history))
   roomy-of count = had-take (run_record program fixed.region limits history) count roomy
 
-  stops-full : (files : Option Files) (name : List ℕ) → IsReady files name program played
+  stops-full : (files : Option Files) (name : List ℕ) → IsReady files name program played → IsSound program
       → (part : Part) (used want : ℕ)
       → StopsScript fixed program (map frames_of played) history (RecordFull part used want)
       → StopsFull limits files name part (used + want)
-  stops-full files name ready part used want s =
+  stops-full files name ready sound part used want s =
       record {
         program = program;
         played = played;
         ready = ready;
+        sound = sound;
         history = history;
         region = fixed.region;
         roomy = roomy;
@@ -174,7 +177,7 @@ module _ (limits : Limits) (fixed : Fixed) (program : Program) (played : List In
         counted = refl;
       }
 
-  pub few-used : (fault : StepFault) → limits.entries ≤ 8388608 → limits.bytes ≤ 536870912
+  pub few-used : (fault : StepFault) → limits.entries ≤ most_entries → limits.bytes ≤ most_bytes
       → IsStoppedBy fixed program (map frames_of played) history fault → IsFewUsed fault
   few-used (RecordFull part used want) entries bytes s =
       let stop = stop-of (RecordFull part used want) s in
@@ -185,11 +188,11 @@ module _ (limits : Limits) (fixed : Fixed) (program : Program) (played : List In
   few-used faults.NoMemory entries bytes s = tt
 
   pub ends-stopped : (io : Io) (name : List ℕ) (fault : StepFault)
-      → IsReady io.files name program played → WritesNothing io
+      → IsReady io.files name program played → IsSound program → WritesNothing io
       → IsStoppedBy fixed program (map frames_of played) history fault
       → Ends limits io name (stopped limits fault)
-  ends-stopped io name (RecordFull parts.Entries used want) ready nothing s =
-      (stops-full io.files name ready parts.Entries used want s, (refl, nothing))
-  ends-stopped io name (RecordFull parts.Bytes used want) ready nothing s =
-      (stops-full io.files name ready parts.Bytes used want s, (refl, nothing))
-  ends-stopped io name faults.NoMemory ready nothing s = inl nothing
+  ends-stopped io name (RecordFull parts.Entries used want) ready sound nothing s =
+      (stops-full io.files name ready sound parts.Entries used want s, (refl, nothing))
+  ends-stopped io name (RecordFull parts.Bytes used want) ready sound nothing s =
+      (stops-full io.files name ready sound parts.Bytes used want s, (refl, nothing))
+  ends-stopped io name faults.NoMemory ready sound nothing s = inl nothing

@@ -1,6 +1,6 @@
 -- How a load ends.
 use Rattle.std.proofs.Common.{ℕ, ◌≡◌, List, [], take, Option, Result, Ok, Err, IfOk, IfErr, refl, sym, ◌∙◌, ap, subst, arith}
-use Rattle.nm_types.specs.declared.limits.TheConstants.Limits.{VERSION_1}
+use Rattle.nm_types.specs.declared.limits.TheConstants.Limits.{VERSION_2}
 use Rattle.nm_types.specs.declared.fault.Part.{Part}
 use Rattle.nm_types.specs.declared.fault.StepFault.{StepFault}
 use Rattle.nm_types.specs.declared.fault.StepFault.TheVariants.{RecordFull}
@@ -24,25 +24,25 @@ use Rattle.vale_run.proofs.LoadCosts.{load-fits}
 -- what was played is the load of the number, without files
 pub play-of : (n : ℕ) (script : Program) (inputs : List InputFile) (book : Recorded)
     (ended : Result (List OutputFile) StepFault) → script ≡ load_program n → inputs ≡ []
-    → IsPlayOf VERSION_1 script inputs book ended → IsPlayOf VERSION_1 (load_program n) [] book ended
+    → IsPlayOf VERSION_2 script inputs book ended → IsPlayOf VERSION_2 (load_program n) [] book ended
 play-of n script inputs book ended is none p =
-    subst (λ (i : List InputFile). IsPlayOf VERSION_1 (load_program n) i book ended) none
-    (subst (λ (s : Program). IsPlayOf VERSION_1 s inputs book ended) is p)
+    subst (λ (i : List InputFile). IsPlayOf VERSION_2 (load_program n) i book ended) none
+    (subst (λ (s : Program). IsPlayOf VERSION_2 s inputs book ended) is p)
 
 module _ (n : ℕ) (book : Recorded) (ended : Result (List OutputFile) StepFault)
-    (p : IsPlayOf VERSION_1 (load_program n) [] book ended) where
-  roomy : HadRoom (run_record (load_program n) p.fixed.region VERSION_1 book.entries)
-  roomy = subst HadRoom (book-is VERSION_1 (load_program n) [] book ended p) p.roomy
+    (p : IsPlayOf VERSION_2 (load_program n) [] book ended) where
+  roomy : HadRoom (run_record (load_program n) p.fixed.region VERSION_2 book.entries)
+  roomy = subst HadRoom (book-is VERSION_2 (load_program n) [] book ended p) p.roomy
 
   -- a load that came to its end has a history that plays it
-  load-of : (outputs : List OutputFile) → ended ≡ Ok outputs → LoadOf VERSION_1 n
+  load-of : (outputs : List OutputFile) → ended ≡ Ok outputs → LoadOf VERSION_2 n
   load-of outputs is =
       let plays : PlaysScript (load_program n) [] book.entries outputs = subst
       (λ r. IfOk r (PlaysScript (load_program n) [] book.entries)) is p.plays in
       record {
         entries = book.entries;
         cast = plays.cast;
-        history = is-history VERSION_1 p.fixed.region (load_program n) [] book.entries plays.cast
+        history = is-history VERSION_2 p.fixed.region (load_program n) [] book.entries plays.cast
             roomy p.few (omega arith) plays.played;
       }
 
@@ -50,9 +50,9 @@ module _ (n : ℕ) (book : Recorded) (ended : Result (List OutputFile) StepFault
   pool-is = sym (ap (λ (b : Recorded). b.pool) p.book_is) ∙ p.pool
 
   -- its line was written
-  ends-line : (load : LoadOf VERSION_1 n) (faults : ℕ × ℕ) (old new : Option (List ℕ))
+  ends-line : (load : LoadOf VERSION_2 n) (faults : ℕ × ℕ) (old new : Option (List ℕ))
       (status : Status) → WritesAnswer (text_in load) faults old new status
-      → LoadEnds VERSION_1 n faults old new status
+      → LoadEnds VERSION_2 n faults old new status
   ends-line load faults old new Done w = (load, w)
   ends-line load faults old new WriteFault w = (load, w)
   ends-line load faults old new NoMemory w = absurd w
@@ -66,7 +66,7 @@ module _ (n : ℕ) (book : Recorded) (ended : Result (List OutputFile) StepFault
   pub ends-load : (outputs : List OutputFile) → ended ≡ Ok outputs → (faults : ℕ × ℕ)
       (old new : Option (List ℕ)) (status : Status)
       → WritesAnswer (load_text n book.pool book.entries) faults old new status
-      → LoadEnds VERSION_1 n faults old new status
+      → LoadEnds VERSION_2 n faults old new status
   unfolding load-of
   ends-load outputs is faults old new status w =
       ends-line (load-of outputs is) faults old new status
@@ -79,13 +79,13 @@ module _ (n : ℕ) (book : Recorded) (ended : Result (List OutputFile) StepFault
       let fault = RecordFull part used want in
       let s : StopsScript p.fixed (load_program n) [] book.entries fault = subst
       (λ r. IfErr r (IsStoppedBy p.fixed (load_program n) [] book.entries)) is p.stops in
-      let at = stop-of VERSION_1 p.fixed (load_program n) [] book.entries p.pool p.limits_are roomy
+      let at = stop-of VERSION_2 p.fixed (load_program n) [] book.entries p.pool p.limits_are roomy
       fault s in
-      let front = run_record (load_program n) p.fixed.region VERSION_1 (take s.count book.entries) in
+      let front = run_record (load_program n) p.fixed.region VERSION_2 (take s.count book.entries) in
       not-refused front s.call part used want
-      (few-fit (load_program n) [] p.fixed.region VERSION_1 (take s.count book.entries) s.user
+      (few-fit (load_program n) [] p.fixed.region VERSION_2 (take s.count book.entries) s.user
       s.call (load-fits n) at.comes)
-      (refusal-of VERSION_1 p.fixed (load_program n) [] book.entries p.pool p.limits_are roomy fault
+      (refusal-of VERSION_2 p.fixed (load_program n) [] book.entries p.pool p.limits_are roomy fault
       s)
 
   -- so that where it stopped memory was wanting
@@ -94,6 +94,6 @@ module _ (n : ℕ) (book : Recorded) (ended : Result (List OutputFile) StepFault
   stops-few faults.NoMemory is = tt
 
   pub ends-stopped : (fault : StepFault) → ended ≡ Err fault → (counts : ℕ × ℕ)
-      (holds : Option (List ℕ)) → LoadEnds VERSION_1 n counts holds holds (stopped VERSION_1 fault)
+      (holds : Option (List ℕ)) → LoadEnds VERSION_2 n counts holds holds (stopped VERSION_2 fault)
   ends-stopped (RecordFull part used want) is counts holds = absurd (never-full part used want is)
   ends-stopped faults.NoMemory is counts holds = refl

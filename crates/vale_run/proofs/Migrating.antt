@@ -5,7 +5,8 @@ use Rattle.vale_entry.specs.declared.entry.Entry.{Entry}
 use Rattle.vale_captures.specs.Inputs.{HasContents}
 use Rattle.vale_text.specs.Reading.{IsTextWith, IsTextOf, IsFirstBad}
 use Rattle.vale_run.specs.Run.{Io, HasRisen, WritesNothing}
-use Rattle.vale_run.specs.Migrate.{Migrated, TextEnds, EndsText, MigrateEnds, most_text}
+use Rattle.nm_types.specs.Limits.{most_text}
+use Rattle.vale_run.specs.Migrate.{Migrated, TextEnds, EndsText, MigrateEnds}
 use Rattle.vale_run.specs.Complete.{IsMigratable, Completes}
 use Rattle.vale_run.specs.Writing.{NamesFile, NamesText, WroteText}
 use Rattle.vale_run.specs.declared.status.What.TheVariants.{Script, Lines, Counts, Inputs, Frames, Entries, Bytes, Text}

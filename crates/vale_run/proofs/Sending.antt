@@ -1,35 +1,35 @@
--- What the Sends of a legal history send fits 64 bits: there are fewer than 2^32 entries, and each sends at
--- most 1,023 frames of at most 2,048 bytes.
+-- What the Sends of a legal history send fits 64 bits: there are fewer than 2^32 entries, and each sends the
+-- frames and bytes of a batch at most.
 use Rattle.std.proofs.Common.{ℕ, ◌+◌, ◌*◌, ◌<◌, ◌≤◌, ◌^◌, ◌≡◌, ◌&&◌, Bool, true, false, cond, nat_le, List, [], ◌∷◌, length, take, slice_get, sum_by, Option, Some, None, option_map, refl, ◌∙◌, ap, arith}
 use Rattle.std.specs.List.{list_all}
 use Rattle.std.proofs.lemmas.Bool.{leb-true, and_parts}
 use Rattle.std.proofs.lemmas.List.Sums.{sum_by-cons, sum_by_push, sum_by-take-le}
+use Rattle.nm_types.specs.Limits.{most_batch}
 use Rattle.nm_types.specs.Frames.{Frame, bytes_of_frames, size_of_frames}
 use Rattle.nm_types.specs.Names.{is_switch_port_name}
-use Rattle.nm_types.specs.Sendable.{fits_buffer, is_sendable}
+use Rattle.nm_types.specs.Sendable.{is_frame, fit_slots, is_sendable}
 use Rattle.vale_entry.specs.declared.entry.Ask.{Ask}
 use Rattle.vale_entry.specs.declared.entry.Ask.TheVariants.{Send}
 use Rattle.vale_entry.specs.declared.entry.Entry.{Entry}
 use Rattle.vale_entry.specs.declared.entry.Reply.{Reply}
 use Rattle.vale_entry.specs.World.{Port, is_settled, open_port}
 use Rattle.vale_entry.specs.Legal.{Standing, IsLegal, IsLegalFrom, after, can_send, fresh_standing, made_at, recorded_step, send_step, session_and_reply}
-use Rattle.vale_entry.proofs.FrameBytes.{frames-bytes}
+use Rattle.vale_entry.proofs.FrameBytes.{frames-slots}
 use Rattle.vale_captures.proofs.Pages.{taken-next}
 use Rattle.vale_run.specs.Load.{frames_of_ask, count_sent, bytes_sent}
 
 record AreFew (frames : List Frame) : Type 0 where
-  count : length frames ≤ 1023
-  bytes : bytes_of_frames frames ≤ 2095104
+  count : length frames ≤ most_batch
+  bytes : bytes_of_frames frames ≤ 2048 * most_batch
 
 sendable-few : (frames : List Frame) → is_sendable frames ≡ true → AreFew frames
 sendable-few frames may =
-    let parts = and_parts (nat_le (length frames) 1023)
-    (nat_le (size_of_frames frames) 1023 && list_all fits_buffer frames) may in
-    let fits = and_parts (nat_le (size_of_frames frames) 1023) (list_all fits_buffer frames)
-    parts.1 in
-    let count = leb-true (length frames) 1023 parts.0 in
-    let bytes = frames-bytes frames fits.1 in
-    record { count = count; bytes = omega (arith, count, bytes) }
+    let parts = and_parts (nat_le (length frames) most_batch) (fit_slots most_batch frames) may in
+    let fits = and_parts (nat_le (size_of_frames frames) most_batch) (list_all is_frame frames) parts.1 in
+    let count = leb-true (length frames) most_batch parts.0 in
+    let size = leb-true (size_of_frames frames) most_batch fits.0 in
+    let bytes = frames-slots frames in
+    record { count = count; bytes = omega (arith, size, bytes) }
 
 -- a Send that was made carries what one send may carry
 made-sendable : (s : Standing) (frames : List Frame) (found : Option Port) (made : ℕ × Reply)
@@ -56,8 +56,8 @@ few-sent s session (Send from frames) reply follows = sendable-few frames
 few-sent s session ask reply follows = record { count = omega arith; bytes = omega arith }
 
 record AreSumsFew (history : List Entry) : Type 0 where
-  count : sum_by count_sent history ≤ 1023 * length history
-  bytes : sum_by bytes_sent history ≤ 2095104 * length history
+  count : sum_by count_sent history ≤ most_batch * length history
+  bytes : sum_by bytes_sent history ≤ 2048 * most_batch * length history
 
 sums-few : (s : Standing) (history : List Entry) → IsLegalFrom s history → AreSumsFew history
 sums-few s [] legal = record { count = omega arith; bytes = omega arith }

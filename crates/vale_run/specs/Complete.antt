@@ -6,7 +6,7 @@ use Rattle.vale_entry.specs.declared.entry.Entry.{Entry}
 use Rattle.vale_text.specs.Reading.{IsTextOf}
 use Rattle.vale_cost.specs.FewFrames.{IsLight}
 use Rattle.vale_run.specs.Run.{Io, HasRisen, IsReady}
-use Rattle.vale_run.specs.Migrate.{most_text}
+use Rattle.nm_types.specs.Limits.{most_text}
 use Rattle.vale_run.specs.declared.status.Status.{Status}
 use Rattle.vale_run.specs.declared.status.Status.TheVariants.{Done, NoMemory}
 

@@ -7,6 +7,7 @@ use Rattle.vale_captures.specs.Inputs.{HasContents}
 use Rattle.vale_entry.specs.declared.entry.Entry.{Entry}
 use Rattle.vale_entry.specs.Transcript.{newest, text_of}
 use Rattle.vale_text.specs.Reading.{IsTextWith, IsFirstBad}
+use Rattle.nm_types.specs.Limits.{most_text}
 use Rattle.vale_run.specs.Run.{Io, HasRisen, WritesNothing, word_behind}
 use Rattle.vale_run.specs.declared.status.What.TheVariants.{Text}
 use Rattle.vale_run.specs.declared.status.Status.{Status}
@@ -15,10 +16,6 @@ use Rattle.vale_run.specs.declared.status.Status.TheVariants.{Done, ReadFault, W
 -- the words `migrate FILE`, of which this gives the file's name
 abbrev pub text_name : List (List ℕ) → Option (List ℕ)
 text_name words = word_behind (codes "migrate") words
-
--- how many bytes a text may have
-abbrev pub most_text : ℕ
-most_text = 268435456
 
 -- these bytes are a text of version 1 or 2, which tells all this
 pub record Migrated (bytes : List ℕ) : Type 0 where

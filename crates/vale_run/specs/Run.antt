@@ -19,6 +19,7 @@ use Rattle.vale_entry.specs.Transcript.{transcript_text}
 use Rattle.vale_book.specs.Recorded.{IsRefusal, HadRoom}
 use Rattle.vale_script.specs.Grammar.{script_of}
 use Rattle.vale_script.specs.Script.{Program}
+use Rattle.vale_script.specs.Sound.{IsSound}
 use Rattle.vale_captures.specs.declared.inputs.InputFault.{InputFault}
 use Rattle.vale_captures.specs.declared.inputs.InputFault.TheVariants as inputs
 use Rattle.vale_captures.specs.Inputs.{InputFile, HasContents, AreInputs, StopsAtFile, frames_of}
@@ -186,15 +187,16 @@ pub record WritesSaved (text : List ℕ) (saved : List OutputFile) (io : Io) (fa
 abbrev pub WritesPart : List ℕ → List OutputFile → Io → Bool → Type 0
 WritesPart text saved io failed = WritesText text io failed ⊎ WritesSaved text saved io failed
 
--- In a history for which the record had room some users stopped, the one with the smallest number at this
--- call: it comes next after so many entries, and the record was full for it. Each user of a smaller number
--- has played its lines to the end of its block. How far users of a larger number went in it is left free,
--- and so are the entries behind the block's, those with which the sessions are closed: the run writes none
--- of this history.
+-- In a history of a sound script for which the record had room some users stopped, the one with the smallest
+-- number at this call: it comes next after so many entries, and the record was full for it. Each user of a
+-- smaller number has played its lines to the end of its block. How far users of a larger number went in it
+-- is left free, and so are the entries behind the block's, those with which the sessions are closed: the run
+-- writes none of this history.
 pub record StopsFull (limits : Limits) (files : Option Files) (name : List ℕ) (part : Part) (count : ℕ) : Type 0 where
   pub program : Program
   pub played : List InputFile
   pub ready : IsReady files name program played
+  pub sound : IsSound program
   pub history : List Entry
   pub region : ℕ
   pub roomy : HadRoom (record { pool = program.pool; region = region; limits = limits; entries = history })

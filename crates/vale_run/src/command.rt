@@ -85,7 +85,7 @@ fn bad_capture(alloc: Global, name: &str, cause: PcapFault) -> Status
 /// How a run ends that met a fault of the record.
 pub(crate) fn stopped(fault: StepFault) -> Status
     requires { IsFewUsed fault }
-    ensures { result ≡ stopped Limits.VERSION_1 fault }
+    ensures { result ≡ stopped Limits.VERSION_2 fault }
 {
     match fault {
         StepFault::RecordFull {
@@ -95,7 +95,7 @@ pub(crate) fn stopped(fault: StepFault) -> Status
         } => Status::Over {
             what: What::Entries,
             count: used + want,
-            limit: Limits::VERSION_1.entries,
+            limit: Limits::VERSION_2.entries,
         },
         StepFault::RecordFull {
             what: Part::Bytes,
@@ -104,7 +104,7 @@ pub(crate) fn stopped(fault: StepFault) -> Status
         } => Status::Over {
             what: What::Bytes,
             count: used + want,
-            limit: Limits::VERSION_1.bytes,
+            limit: Limits::VERSION_2.bytes,
         },
         StepFault::NoMemory => Status::NoMemory,
     }
@@ -136,7 +136,7 @@ fn write<S: Shelf, K: Sink>(
     out: &mut K,
     remains: &mut Remains,
 ) -> Status
-    requires limits { book.limits ≡ Limits.VERSION_1 }
+    requires limits { book.limits ≡ Limits.VERSION_2 }
     requires whole { free_count (standing book).world ≡ book.pool }
     requires writable { AllByRecursion IsWritable outputs.now }
     ensures small { book.pool < 2 ^ 32 }
@@ -169,7 +169,7 @@ fn run_ready<R: AllocGlobal + Threads + Wait + Sync, S: Shelf, K: Sink, G: Gate>
     requires sound { IsSound script.now }
     requires files { map name_of inputs.now ≡ script.now.files }
     ensures ends { (name : List ℕ) → IsReady (S.files shelf.old) name script.now inputs.now
-        → Ends Limits.VERSION_1
+        → Ends Limits.VERSION_2
         (io_of S.Shelf K.Sink shelf.old shelf.new out.old out.new) name result }
     ensures later { CountsRise (io_of S.Shelf K.Sink shelf.old shelf.new out.old out.new) }
 {
@@ -216,7 +216,7 @@ fn run_inputs<R: AllocGlobal + Threads + Wait + Sync, S: Shelf, K: Sink, G: Gate
     requires files { map name_of inputs.now ≡ script.now.files }
     requires few { frames_played script.now inputs.now < 2 ^ 64 }
     ensures ends { (name : List ℕ) → HasInputs (S.files shelf.old) name script.now inputs.now
-        → Ends Limits.VERSION_1
+        → Ends Limits.VERSION_2
         (io_of S.Shelf K.Sink shelf.old shelf.new out.old out.new) name result }
     ensures later { CountsRise (io_of S.Shelf K.Sink shelf.old shelf.new out.old out.new) }
 {
@@ -243,7 +243,7 @@ fn run_counted<R: AllocGlobal + Threads + Wait + Sync, S: Shelf, K: Sink, G: Gat
     requires sound { IsSound script.now }
     requires said { IsSaid script.now }
     ensures ends { (name : List ℕ) → IsCounted (S.files shelf.old) name script.now
-        → Ends Limits.VERSION_1
+        → Ends Limits.VERSION_2
         (io_of S.Shelf K.Sink shelf.old shelf.new out.old out.new) name result }
     ensures later { CountsRise (io_of S.Shelf K.Sink shelf.old shelf.new out.old out.new) }
 {
@@ -265,7 +265,7 @@ fn run_accepted<R: AllocGlobal + Threads + Wait + Sync, S: Shelf, K: Sink, G: Ga
     requires sound { IsSound script.now }
     requires said { IsSaid script.now }
     ensures ends { (name : List ℕ) → IsAccepted (S.files shelf.old) name script.now
-        → Ends Limits.VERSION_1
+        → Ends Limits.VERSION_2
         (io_of S.Shelf K.Sink shelf.old shelf.new out.old out.new) name result }
     ensures later { CountsRise (io_of S.Shelf K.Sink shelf.old shelf.new out.old out.new) }
 {
@@ -291,7 +291,7 @@ fn run_script<R: AllocGlobal + Threads + Wait + Sync, S: Shelf, K: Sink, G: Gate
 ) -> Status
     requires { length bytes.now ≤ MAX_SCRIPT_BYTES }
     ensures ends { (name : List ℕ) → HasContents (S.files shelf.old) name bytes.now
-        → Ends Limits.VERSION_1
+        → Ends Limits.VERSION_2
         (io_of S.Shelf K.Sink shelf.old shelf.new out.old out.new) name result }
     ensures later { CountsRise (io_of S.Shelf K.Sink shelf.old shelf.new out.old out.new) }
 {
@@ -323,7 +323,7 @@ fn run_file<R: AllocGlobal + Threads + Wait + Sync, S: Shelf, K: Sink, G: Gate>(
     gate: &G,
     remains: &mut Remains,
 ) -> Status
-    ensures ends { Ends Limits.VERSION_1
+    ensures ends { Ends Limits.VERSION_2
         (io_of S.Shelf K.Sink shelf.old shelf.new out.old out.new) name.now result }
     ensures later { CountsRise (io_of S.Shelf K.Sink shelf.old shelf.new out.old out.new) }
 {
@@ -348,7 +348,7 @@ pub fn run_leaving<R: AllocGlobal + Threads + Wait + Sync, S: Shelf, K: Sink, G:
     gate: &G,
     remains: &mut Remains,
 ) -> Status
-    ensures runs { Runs Limits.VERSION_1 (script_name (map string_bytes words.now))
+    ensures runs { Runs Limits.VERSION_2 (script_name (map string_bytes words.now))
         (load_number (map string_bytes words.now)) (text_name (map string_bytes words.now))
         (io_of S.Shelf K.Sink shelf.old shelf.new out.old out.new) result }
     ensures completes { Completes (script_name (map string_bytes words.now))
@@ -382,7 +382,7 @@ pub fn run<R: AllocGlobal + Threads + Wait + Sync, S: Shelf, K: Sink, G: Gate>(
     out: &mut K,
     gate: &G,
 ) -> Status
-    ensures runs { Runs Limits.VERSION_1 (script_name (map string_bytes words.now))
+    ensures runs { Runs Limits.VERSION_2 (script_name (map string_bytes words.now))
         (load_number (map string_bytes words.now)) (text_name (map string_bytes words.now))
         (io_of S.Shelf K.Sink shelf.old shelf.new out.old out.new) result }
     ensures completes { Completes (script_name (map string_bytes words.now))

@@ -122,7 +122,7 @@ pub(crate) fn run_load<R: AllocGlobal + Threads + Wait + Sync, K: Sink, G: Gate>
     gate: &G,
     remains: &mut Remains,
 ) -> Status
-    ensures ends { LoadEnds Limits.VERSION_1 n (K.faults out.old, K.faults out.new)
+    ensures ends { LoadEnds Limits.VERSION_2 n (K.faults out.old, K.faults out.new)
         (K.holds out.old) (K.holds out.new) result }
     ensures later { K.faults out.old ≤ K.faults out.new }
 {

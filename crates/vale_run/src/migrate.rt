@@ -8,11 +8,9 @@ ghost use Rattle.vale_run.specs.Writing.{NamesText, WroteText};
 use crate::command::{read_fault, word_behind};
 use crate::status::{Status, What};
 use nm_io::{ReadError, Shelf, Sink, read_all};
+use nm_types::MAX_TEXT;
 use std::alloc::Global;
 use vale_text::{PutError, Text, TextFault, read_any, write_transcript};
-
-/// The most bytes of a transcript that is migrated.
-const MAX_TEXT: u64 = 268_435_456;
 
 /// The name of the words `migrate FILE`.
 pub(crate) fn text_name(words: &[String]) -> Option<&str>

@@ -25,10 +25,10 @@ pub(crate) fn play_recorded<R: AllocGlobal + Threads + Wait + Sync, G: Gate>(
 ) -> Result<(Book, Result<Outputs, StepFault>), NoMemory>
     requires sound { IsSound script.now }
     requires files { map name_of inputs.now ≡ script.now.files }
-    ensures { IfOk result (λ made. IsPlayOf Limits.VERSION_1 script.now inputs.now made.0 made.1) }
+    ensures { IfOk result (λ made. IsPlayOf Limits.VERSION_2 script.now inputs.now made.0 made.1) }
 {
     let alloc = rt.alloc();
-    let (fabric, pass) = Fabric::new(alloc, script.pool(), Limits::VERSION_1)?;
+    let (fabric, pass) = Fabric::new(alloc, script.pool(), Limits::VERSION_2)?;
     let (pass, played) = play(alloc, rt, &fabric, pass, script, inputs, gate);
     Ok((fabric.close(rt, pass), played))
 }

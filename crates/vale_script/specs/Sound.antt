@@ -23,6 +23,10 @@ most_of Len = 65535
 most_of Flags = 65535
 most_of Ptr = 18446744073709551615
 
+-- a number of 32 bits
+abbrev pub IsNumber : ℕ → Type 0
+IsNumber n = n ≤ 4294967295
+
 -- a frame that a buffer holds, without a mark
 pub record IsSoundFrame (frame : Frame) : Type 0 where
   pub fits : length frame.bytes ≤ buffer_bytes
@@ -37,7 +41,7 @@ IsFileName word = is_file_name word ≡ true
 -- what a user does that has entered: names are names, and numbers are within the ranges of their places
 abbrev pub IsSoundDeed : Act → Type 0
 IsSoundDeed acts.Enter = ⊥
-IsSoundDeed (acts.Open name tx rx extra) = IsName name
+IsSoundDeed (acts.Open name tx rx extra) = IsName name × IsNumber tx × IsNumber rx × IsNumber extra
 IsSoundDeed (acts.Put name count to from len fill) = IsName name × (count ≤ most_counts) × (len ≤ buffer_bytes)
 IsSoundDeed (acts.Hex name frame) = IsName name × IsSoundFrame frame
 IsSoundDeed (acts.Play name file batch) = IsName name × IsFileName file × (1 ≤ batch) × (batch ≤ most_batch)
@@ -45,7 +49,7 @@ IsSoundDeed (acts.Tx name) = IsName name
 IsSoundDeed (acts.Rx name keep) = IsName name
 IsSoundDeed (acts.Fwd from to count) = IsName from × IsName to × (count ≤ most_counts)
 IsSoundDeed (acts.Poke name side slot field value) = IsName name × (value ≤ most_of field)
-IsSoundDeed (acts.Move name side head cur) = IsName name
+IsSoundDeed (acts.Move name side head cur) = IsName name × IsNumber head × IsNumber cur
 IsSoundDeed (acts.Swap name side slot other other_side other_slot quiet) = IsName name × IsName other
 IsSoundDeed (acts.Extra name i j) = IsName name
 IsSoundDeed (acts.Watch monitor target sides) = IsName monitor × IsName target

@@ -1,17 +1,13 @@
 -- Buffers of a session go, others come, and offers are made.
-use Rattle.std.proofs.Common.{ℕ, ◌≡◌, ◌≤◌, ◌+◌, ◌==◌, true, List, [], ◌∷◌, ◌++◌, length, map, take, Option, Some, None, is_some, refl, sym, ◌∙◌, ap, subst, arith, length-append}
-use Rattle.std.specs.Prelude.{vec_capacity, Vec, All}
+use Rattle.std.proofs.Common.{ℕ, ◌≡◌, ◌≤◌, ◌+◌, true, List, [], ◌∷◌, ◌++◌, length, map, take, Option, Some, None, is_some, refl, sym, ◌∙◌, ap, subst, arith, length-append}
+use Rattle.std.specs.Prelude.{vec_capacity, Vec}
 use Rattle.std.specs.List.{AllByRecursion as Each}
 use Rattle.std.specs.declared.alloc.Global.{Global}
-use Rattle.std.proofs.lemmas.Bool.{eq-eqb}
 use Rattle.std.proofs.lemmas.List.{length-map}
-use Rattle.std.proofs.lemmas.List.Elements.{recursion_from_All}
 use Rattle.nm_types.specs.Frames.{Frame}
 use Rattle.nm_types.specs.declared.id.SessionId.{SessionId}
 use Rattle.nm_region.specs.Buffers.{Buffer, indices_of}
 use Rattle.vale_batch.specs.Wants.{Wanted}
-use Rattle.vale_line.specs.declared.got.Got.{Got}
-use Rattle.vale_line.specs.Gots.{frames_in, part_in, IsSingle}
 use Rattle.vale_line.specs.Leased.{Leased}
 use Rattle.vale_entry.specs.declared.entry.Ask.{Ask}
 use Rattle.vale_entry.specs.declared.entry.Dest.{Dest}
@@ -31,9 +27,8 @@ use Rattle.vale_book.specs.Recorded.{Recorded, standing, entry_of, after_ask, af
 use Rattle.vale_serve.specs.declared.users.Sent.{Sent}
 use Rattle.vale_serve.specs.declared.users.User.{User}
 use Rattle.vale_serve.specs.Buffers.{times}
-use Rattle.vale_serve.specs.Copies.{parts_in}
 use Rattle.vale_serve.specs.Exchange.{HasTakenOut, HasMore}
-use Rattle.vale_serve.specs.Users.{FitsBuffer, HasOffers, AreHeldAs, AreSame, IsRoom, HasOwn, IsUser, HasSent, contents, sent_of, wants_left, number_of}
+use Rattle.vale_serve.specs.Users.{HasOffers, AreHeldAs, AreSame, IsRoom, HasOwn, IsUser, HasSent, contents, sent_of, wants_left, number_of}
 use Rattle.vale_serve.proofs.Keeping.{IsLater, grown, step-follows, leases-later, rise-later, of-later, same-ports}
 use Rattle.vale_serve.proofs.Opens.{indices-append}
 use Rattle.vale_serve.proofs.Sends.{fresh-offers, wants-left}
@@ -57,14 +52,14 @@ none-offered frames (want ∷ wants) offers e are = absurd cc
 
 -- copies of the frames are at hand where some are offered
 pub fresh-some : (s : Standing) (offers : OffersState) (kept : Vec (Vec ℕ Global) Global) (st : OffersStand s offers) → (1 ≤ length offers.wants → contents kept.items ≡ bytes_of st.frames)
-    → Each FitsBuffer (contents kept.items) → HasOffers (offers_at s.world offers.entry) (sent_of offers.wants offers kept)
-fresh-some s offers kept st bytes few = by offers.wants refl
+    → HasOffers (offers_at s.world offers.entry) (sent_of offers.wants offers kept)
+fresh-some s offers kept st bytes = by offers.wants refl
   where
     by : (wants : List Wanted) → offers.wants ≡ wants → HasOffers (offers_at s.world offers.entry) (sent_of wants offers kept)
     by [] e = none-offered st.frames offers.wants (offers_at s.world offers.entry) e st.are
     by (want ∷ wants) e =
         let long = ap (λ (ws : List Wanted). length ws) e in
-        subst (λ (ws : List Wanted). HasOffers (offers_at s.world offers.entry) (sent_of ws offers kept)) e (fresh-offers s offers kept st (bytes (omega (arith, long))) few)
+        subst (λ (ws : List Wanted). HasOffers (offers_at s.world offers.entry) (sent_of ws offers kept)) e (fresh-offers s offers kept st (bytes (omega (arith, long))))
 
 -- the offers of the entry of an ask
 pub theirs : (b after : Recorded) (ask : Ask) (made : Outcome) (number : ℕ) → step (standing b) ask ≡ Some made → after ≡ after_ask b ask → number ≡ length after.entries
@@ -78,17 +73,6 @@ theirs b after ask made number is grew count =
     ap (offers_at (standing after).world) next
     ∙ (ap (λ (r : Recorded). offers_at (standing r).world ((standing b).world.entry_count + 1)) same
     ∙ offers_start b.pool b.entries e (step-follows (standing b) ask made is))
-
--- ---- frames in single buffers
-
-pub parts-single : (gots : List Got) → Each IsSingle gots → frames_in gots ≡ parts_in gots
-parts-single [] all = refl
-parts-single (got ∷ gots) all =
-    let last : (got.rest == 0) ≡ true = eq-eqb got.rest 0 all.0 in
-    rw last (ap (λ (fs : List (List ℕ)). part_in got ∷ fs) (parts-single gots all.1))
-
-pub parts-of : (gots : List Got) → All IsSingle gots → frames_in gots ≡ parts_in gots
-parts-of gots all = parts-single gots (recursion_from_All IsSingle gots all)
 
 pub take-whole : {X : Type 0} (xs : List X) → take (length xs) xs ≡ xs
 take-whole [] = refl

@@ -1,8 +1,6 @@
 -- Frames are written into buffers, one by one.
 use Rattle.std.proofs.Common.{ℕ, zero, suc, ◌≡◌, ◌+◌, ◌<◌, ◌==◌, ◌&&◌, ◌||◌, not, Bool, true, false, List, [], ◌∷◌, ◌++◌, length, take, drop, reverse, get_or, refl, sym, ◌∙◌, ap, ap₂, subst, arith}
-use Rattle.std.specs.Prelude.{Vec}
 use Rattle.std.specs.List.{AllByRecursion as Each, list_all, list_any}
-use Rattle.std.specs.declared.alloc.Global.{Global}
 use Rattle.std.proofs.lemmas.Bool.{and_parts}
 use Rattle.std.proofs.lemmas.List.{length-map, map-append, reverse-append, reverse-reverse}
 use Rattle.nm_types.specs.Frames.{Frame}
@@ -18,9 +16,7 @@ use Rattle.vale_entry.proofs.Each.{each-append}
 use Rattle.vale_book.specs.BookView.{AreOf, IsBufferOf}
 use Rattle.vale_book.specs.Putting.{item_of, items_of}
 use Rattle.vale_serve.specs.Buffers.{holds}
-use Rattle.vale_serve.specs.Putting.{is_in, is_held, bytes_in, AreFramed}
-use Rattle.vale_serve.specs.Users.{contents}
-use Rattle.vale_serve.proofs.Copied.{contents-more}
+use Rattle.vale_serve.specs.Putting.{is_in, is_held, AreFramed}
 use Rattle.vale_serve.proofs.Exchanges.{take-whole}
 
 -- ---- by their indices
@@ -32,20 +28,6 @@ named-items index (item ∷ items) = ap (λ (t : Bool). (item.index == index) ||
 pub held-items : (bufs : List Buffer) (items : List Item) → list_all (is_held bufs) items ≡ list_all (holds bufs) (item_indices items)
 held-items bufs [] = refl
 held-items bufs (item ∷ items) = ap (λ (t : Bool). holds bufs item.index && t) (held-items bufs items)
-
--- ---- their bytes
-
-bytes-more : (items : List Item) (i : ℕ) (item : Item) → i < length items → item ≡ get_or items i item → bytes_in (take (i + 1) items) ≡ bytes_in (take i items) ++ item.bytes.bytes ∷ []
-bytes-more [] i item few e = absurd (omega (arith, few))
-bytes-more (x ∷ xs) zero item few e = ap (λ (y : Item). y.bytes.bytes ∷ []) (sym e)
-bytes-more (x ∷ xs) (suc i) item few e =
-    let next : suc i + 1 ≡ suc (i + 1) = omega arith in
-    rw next (ap (λ (all : List (List ℕ)). x.bytes.bytes ∷ all) (bytes-more xs i item (omega (arith, few)) e))
-
-pub frames-more : (all : List (Vec ℕ Global)) (one : Vec ℕ Global) (items : List Item) (i : ℕ) (item : Item) → i < length items → item ≡ get_or items i item → contents all ≡ bytes_in (take i items)
-    → one.items ≡ item.bytes.bytes → contents (all ++ one ∷ []) ≡ bytes_in (take (i + 1) items)
-frames-more all one items i item few here made is =
-    contents-more all one ∙ (ap (λ (fs : List (List ℕ)). fs ++ one.items ∷ []) made ∙ (ap (λ (bytes : List ℕ). bytes_in (take i items) ++ bytes ∷ []) is ∙ sym (bytes-more items i item few here)))
 
 -- ---- in their buffers
 

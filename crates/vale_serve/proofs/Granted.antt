@@ -1,13 +1,15 @@
 -- A session's offer is granted, and its lease filled.
 use Rattle.std.proofs.Common.{ℕ, zero, suc, ◌≡◌, ◌≤◌, ◌<◌, ◌+◌, ◌-◌, nat_le, ◌==◌, ◌&&◌, not, Bool, true, false, cond, List, [], ◌∷◌, ◌++◌, length, map, filter, find, take, drop, slice_get, Option, Some, None, option_map, refl, sym, ◌∙◌, ap, subst, arith, append-nil, length-append}
-use Rattle.std.specs.Prelude.{vec_capacity, IfSome, IfNone}
-use Rattle.std.specs.List.{AllByRecursion as Each, cons_option}
+use Rattle.std.specs.Prelude.{vec_capacity, sum, IfSome, IfNone}
+use Rattle.std.specs.List.{list_all, AllByRecursion as Each, cons_option}
 use Rattle.std.specs.Option.{option_map_or}
-use Rattle.std.proofs.lemmas.Bool.{eqb-true, eq-eqb, ne_eqb}
+use Rattle.std.proofs.lemmas.Bool.{and_parts, leb-true, eqb-true, eq-eqb, ne_eqb}
 use Rattle.std.proofs.lemmas.List.{length-map, map-append}
 use Rattle.std.proofs.lemmas.Option.{slice_get-map, slice_get_within}
 use Rattle.nm_types.specs.Frames.{Frame, slots_of, size_of_frames}
-use Rattle.nm_types.proofs.Sizes.{size_of_frames-length}
+use Rattle.nm_types.specs.Limits.{most_frame_bytes}
+use Rattle.nm_types.specs.Parts.{slots_of_bytes, cut_frames}
+use Rattle.nm_types.specs.Sendable.{is_frame}
 use Rattle.nm_types.specs.declared.id.PortId.{PortId}
 use Rattle.nm_types.specs.declared.id.SessionId.{SessionId}
 use Rattle.nm_region.specs.Buffers.{Buffer, indices_of}
@@ -37,13 +39,14 @@ use Rattle.vale_parts.specs.Batches.{IsOfferOf, AreOffersOf}
 use Rattle.vale_parts.specs.Offering.{offers_at, OffersAre}
 use Rattle.vale_parts.proofs.OffersKept.{first_next}
 use Rattle.vale_port.specs.Kept.{KeptFrames, bytes_of, kept_gots, world_frames}
+use Rattle.vale_port.proofs.SeatTies.{sum-sizes}
 use Rattle.vale_book.specs.BookView.{AreOf}
 use Rattle.vale_book.specs.Offering.{OffersState, IsOfferBy, IsLeaseOf}
 use Rattle.vale_book.specs.Recorded.{Recorded, standing, after_outcome, entry_of}
 use Rattle.vale_book.specs.Leases.{WasGranted, is_held_as}
 use Rattle.vale_serve.specs.declared.users.Sent.{Sent}
 use Rattle.vale_serve.specs.declared.users.User.{User}
-use Rattle.vale_serve.specs.Filling.{placed, IsFillable}
+use Rattle.vale_serve.specs.Filling.{placed, frames_for, IsFillable, IsFrameBytes}
 use Rattle.vale_serve.specs.Granting.{CanGrant, IsLeased, HasGranted, AddsLease, listed, given_in}
 use Rattle.vale_serve.specs.Users.{AreOffered, HasOffers, IsHeldAs, AreHeldAs, AreSame, IsRoom, HasOwn, IsUser, HasSent, contents, sent_of, wants_left, number_of, is_want_of, is_sent_of, is_sent_next, is_offered, is_next_to}
 use Rattle.vale_serve.proofs.Keeping.{IsLater, step-follows, leases-later, of-later, same-ports}
@@ -51,6 +54,7 @@ use Rattle.vale_serve.proofs.Acting.{Said, said, later, acts}
 use Rattle.vale_book.proofs.Said.{Steps}
 use Rattle.vale_book.proofs.OffersHeld.{granted-at, filtered}
 use Rattle.vale_book.proofs.LeasesHeld.{given-held}
+use Rattle.vale_book.proofs.WholeFrames.{offer-whole}
 use Rattle.vale_serve.proofs.Sends.{filter-passes, as-many-wants, wants-left}
 
 -- ---- the offers of a session's entry are all that are of the entry
@@ -98,34 +102,36 @@ can-grant b user sent legal are =
     let some' = are.some in
     let at = mine-at b.pool b.entries user.id.0 sent.offers.entry own.offers legal refl (omega (arith, many, some')) are.of in
     record {
+      legal = legal;
       stand = record { frames = are.frames; are = subst (AreOffersOf are.frames sent.offers.wants) (sym at) are.are; by = subst (Each (IsOfferBy sent.offers.session)) (sym at) are.by };
       some = are.some;
       bytes = are.bytes;
-      few = are.few;
     }
 
 -- ---- what is wanted next is there to be filled in
 
 fitting-few : (room : ℕ) (frames : List Frame) → length (longest_fitting room frames) ≤ length frames
 fitting-few room [] = omega arith
-fitting-few room (frame ∷ frames) = by (nat_le 1 room) (fitting-few (room - 1) frames)
+fitting-few room (frame ∷ frames) = by (nat_le (slots_of frame) room) (fitting-few (room - slots_of frame) frames)
   where
-    by : (b : Bool) → length (longest_fitting (room - 1) frames) ≤ length frames → length (cond b (frame ∷ longest_fitting (room - 1) frames) []) ≤ length (frame ∷ frames)
+    by : (b : Bool) → length (longest_fitting (room - slots_of frame) frames) ≤ length frames
+        → length (cond b (frame ∷ longest_fitting (room - slots_of frame) frames) []) ≤ length (frame ∷ frames)
     by true few = omega (arith, few)
     by false few = omega arith
 
 fitting-first : (room : ℕ) (frames : List Frame) → longest_fitting room frames ≡ take (length (longest_fitting room frames)) frames
 fitting-first room [] = refl
-fitting-first room (frame ∷ frames) = by (nat_le 1 room) (fitting-first (room - 1) frames)
+fitting-first room (frame ∷ frames) = by (nat_le (slots_of frame) room) (fitting-first (room - slots_of frame) frames)
   where
-    by : (b : Bool) → longest_fitting (room - 1) frames ≡ take (length (longest_fitting (room - 1) frames)) frames
-        → cond b (frame ∷ longest_fitting (room - 1) frames) [] ≡ take (length (cond b (frame ∷ longest_fitting (room - 1) frames) [])) (frame ∷ frames)
+    by : (b : Bool) → longest_fitting (room - slots_of frame) frames ≡ take (length (longest_fitting (room - slots_of frame) frames)) frames
+        → cond b (frame ∷ longest_fitting (room - slots_of frame) frames) [] ≡ take (length (cond b (frame ∷ longest_fitting (room - slots_of frame) frames) [])) (frame ∷ frames)
     by true rest = ap (λ (fs : List Frame). frame ∷ fs) rest
     by false rest = refl
 
-ones : (frames : List Frame) → Each (λ (n : ℕ). n ≡ 1) (map slots_of frames)
-ones [] = tt
-ones (frame ∷ frames) = (refl, ones frames)
+get-within : {X : Type 0} (xs : List X) (i : ℕ) (x : X) → slice_get xs i ≡ Some x → i < length xs
+get-within [] i x e = absurd cc
+get-within (y ∷ ys) zero x e = omega arith
+get-within (y ∷ ys) (suc i) x e = let rest = get-within ys i x e in omega (arith, rest)
 
 cut : {X : Type 0} (x y : X) (xs ys : List X) → x ∷ xs ≡ y ∷ ys → (x ≡ y) × (xs ≡ ys)
 cut x y xs ys e = (cc, cc)
@@ -170,6 +176,18 @@ next-offer b sent k want here = by sent.offers.wants here k.stand.are
         let same : w ≡ want = cc in
         record { offer = n.offer; first = n.first; is = subst (λ (x : Wanted). IsOfferOf k.stand.frames x n.offer) same n.is }
 
+sizes-bytes : (frames : List Frame) → map slots_of frames ≡ map slots_of_bytes (bytes_of frames)
+sizes-bytes [] = refl
+sizes-bytes (f ∷ fs) = ap (λ (ns : List ℕ). slots_of f ∷ ns) (sizes-bytes fs)
+
+-- frames that are no longer than frames are, and the first of them
+whole-bytes : (n : ℕ) (frames : List Frame) → list_all is_frame frames ≡ true → Each IsFrameBytes (bytes_of (take n frames))
+whole-bytes zero frames whole = tt
+whole-bytes (suc n) [] whole = tt
+whole-bytes (suc n) (f ∷ fs) whole =
+    let parts = and_parts (is_frame f) (list_all is_frame fs) whole in
+    (leb-true (length f.bytes) most_frame_bytes parts.0, whole-bytes n fs parts.1)
+
 pub fillable : (b : Recorded) (sent : Sent) (k : CanGrant b sent) (want : Wanted) (number : ℕ) (lease : Leased) → slice_get sent.offers.wants 0 ≡ Some want
     → ((offer : Offer) → first_offer (standing b).world sent.offers.entry ≡ Some offer → IsLeaseOf (standing b) b.region number offer lease)
     → IsFillable lease want.places (contents sent.frames.items)
@@ -179,18 +197,22 @@ fillable b sent k want number lease here gives =
     let given = longest_fitting (space_of l.seat.port) n.offer.frames in
     let sizes = ap (λ (ns : List ℕ). length ns) l.is.sizes ∙ length-map given slots_of in
     let slots = l.is.slots in
-    let count = size_of_frames-length given in
+    let sum_is = ap sum l.is.sizes ∙ sum-sizes given in
     let none = ap (λ (gs : List Got). length gs) l.is.filled in
     let few = fitting-few (space_of l.seat.port) n.offer.frames in
     let many = as-many-places k.stand.frames want.places n.offer.frames n.is.places in
     let long : length (contents sent.frames.items) ≡ length k.stand.frames = ap (λ (fs : List (List ℕ)). length fs) k.bytes ∙ length-map k.stand.frames (λ (f : Frame). f.bytes) in
+    let placed-are : frames_for lease want.places (contents sent.frames.items) ≡ bytes_of (take (length given) n.offer.frames) =
+    ap (λ (fs : List (List ℕ)). frames_for lease want.places fs) k.bytes
+    ∙ (placed-first k.stand.frames want.places n.offer.frames (length lease.sizes) n.is.places ∙ ap (λ (m : ℕ). bytes_of (take m n.offer.frames)) sizes) in
+    let first = fitting-first (space_of l.seat.port) n.offer.frames in
     record {
       none = l.is.filled;
-      sizes = subst (Each (λ (m : ℕ). m ≡ 1)) (sym l.is.sizes) (ones given);
-      buffers = omega (arith, sizes, slots, count, none);
+      sizes = l.is.sizes ∙ (sizes-bytes given ∙ (ap (λ (fs : List Frame). map slots_of_bytes (bytes_of fs)) first ∙ ap (map slots_of_bytes) (sym placed-are)));
+      buffers = omega (arith, slots, sum_is, none);
       enough = omega (arith, sizes, few, many);
       there = subst (λ (m : ℕ). Each (λ (p : ℕ). p < m) want.places) (sym long) (places-there k.stand.frames want.places n.offer.frames n.is.places);
-      few = k.few;
+      few = subst (Each IsFrameBytes) (sym placed-are) (whole-bytes (length given) n.offer.frames (offer-whole b.pool b.entries sent.offers.entry n.offer k.legal n.first));
     }
 
 -- ---- what the session has after the grant
@@ -224,7 +246,6 @@ left-offers offers sent are left is = by left.wants refl
       some = let long = ap (λ (ws : List Wanted). length ws) e in omega (arith, long);
       frames = are.frames;
       bytes = are.bytes;
-      few = are.few;
       are = subst (λ (ws : List Wanted). AreOffersOf are.frames ws (drop 1 offers)) (sym (ap (λ (o : OffersState). o.wants) is)) (one-less are.frames sent.offers.wants offers are.are);
       of = subst (λ (n : ℕ). Each (λ (o : Offer). o.origin ≡ n) (drop 1 offers)) (sym (ap (λ (o : OffersState). o.entry) is)) (each-drop (λ (o : Offer). o.origin ≡ sent.offers.entry) 1 offers are.of);
       by = subst (λ (n : ℕ). Each (IsOfferBy n) (drop 1 offers)) (sym (ap (λ (o : OffersState). o.session) is)) (each-drop (IsOfferBy sent.offers.session) 1 offers are.by);
@@ -266,10 +287,10 @@ given-first None frames = refl
 given-first (Some port) frames = fitting-first (space_of port) frames
 
 kept-frames : (held : HeldLot) (given filled : Leased) (frames : List Frame) (bytes : List (List ℕ)) → indices_of given.empty ≡ held.1 → held.0.frames ≡ frames → bytes ≡ bytes_of frames
-    → kept_gots filled.filled ≡ record { buffers = indices_of given.empty; frames = bytes } → world_frames held.0 held.1 ≡ kept_gots filled.filled
+    → kept_gots filled.filled ≡ record { buffers = indices_of given.empty; parts = cut_frames bytes } → world_frames held.0 held.1 ≡ kept_gots filled.filled
 kept-frames held given filled frames bytes buffers same all kept =
-    ap (λ (ns : List ℕ). let x : KeptFrames = record { buffers = ns; frames = bytes_of held.0.frames } in x) (sym buffers)
-    ∙ (ap (λ (fs : List (List ℕ)). let x : KeptFrames = record { buffers = indices_of given.empty; frames = fs } in x) (ap bytes_of same ∙ sym all) ∙ sym kept)
+    ap (λ (ns : List ℕ). let x : KeptFrames = record { buffers = ns; parts = cut_frames (bytes_of held.0.frames) } in x) (sym buffers)
+    ∙ (ap (λ (fs : List (List ℕ)). let x : KeptFrames = record { buffers = indices_of given.empty; parts = cut_frames fs } in x) (ap bytes_of same ∙ sym all) ∙ sym kept)
 
 rise-more : (ls : List HeldLot) (n session high : ℕ) (frames : List Frame) (bufs : List ℕ) → Rise 0 (map number_of ls) high → high < n
     → Rise 0 (map number_of (ls ++ lease_of n session frames bufs)) n

@@ -3,11 +3,10 @@ use Rattle.std.proofs.Common.{ℕ, zero, suc, ◌≡◌, ◌≤◌, ◌+◌, ◌
 use Rattle.std.specs.Prelude.{vec_capacity, Ok, Err}
 use Rattle.std.specs.List.{AllByRecursion as Each, list_all}
 use Rattle.std.specs.Option.{option_map_or}
-use Rattle.std.proofs.lemmas.Bool.{and_parts, leb-true}
+use Rattle.std.proofs.lemmas.Bool.{and_parts}
 use Rattle.std.proofs.lemmas.List.{length-map}
 use Rattle.nm_types.specs.Limits.{most_batch}
 use Rattle.nm_types.specs.Names.{is_pipe_name}
-use Rattle.nm_types.specs.Sendable.{fits_buffer}
 use Rattle.nm_types.specs.declared.fault.StepFault.TheVariants as faults
 use Rattle.nm_types.specs.declared.id.PortId.{PortId}
 use Rattle.nm_types.specs.declared.id.SessionId.{SessionId}
@@ -43,7 +42,6 @@ use Rattle.vale_book.specs.declared.fault.PutFault.{PutFault}
 use Rattle.vale_book.specs.declared.fault.PutFault.TheVariants as gone
 use Rattle.vale_steps.specs.declared.putting.Put.{Put as Given}
 use Rattle.vale_steps.proofs.PutLists.{items-first, indices-items}
-use Rattle.vale_book.proofs.Standing.{each-take}
 use Rattle.vale_book.proofs.Said.{Steps}
 use Rattle.vale_book.proofs.PutsTold.{put-said, gone-said}
 use Rattle.vale_serve.specs.declared.users.User.{User}
@@ -52,7 +50,7 @@ use Rattle.vale_serve.specs.Exchange.{HasTakenOut, HasMore}
 use Rattle.vale_serve.specs.Putting.{bytes_in, can_put, AreFramed, unput, HasPut}
 use Rattle.vale_serve.specs.Replies.{dests_in, last_dests}
 use Rattle.vale_serve.specs.Serving.{IsServed}
-use Rattle.vale_serve.specs.Users.{FitsBuffer, HasOffers, AreSame, HasOwn, IsUser, IsAsker, SameUser, contents, sent_of, is_settled_user}
+use Rattle.vale_serve.specs.Users.{HasOffers, AreSame, HasOwn, IsUser, IsAsker, SameUser, contents, sent_of, is_settled_user}
 use Rattle.vale_serve.proofs.Keeping.{own-later}
 use Rattle.vale_serve.proofs.Acting.{later, acts, mine-by, settled-user, settled-parts, last-told, no-memory, user-same, settled-same}
 use Rattle.vale_serve.proofs.Asked.{steps-of}
@@ -145,13 +143,6 @@ of-drop : (region t : ℕ) (gots : List Got) → AreOf region (buffers_of gots) 
 of-drop region zero gots all = all
 of-drop region (suc t) [] all = tt
 of-drop region (suc t) (got ∷ gots) all = of-drop region t gots all.1
-
-fit-items : (items : List Item) → list_all is_pipe_item items ≡ true → Each FitsBuffer (bytes_in items)
-fit-items [] e = tt
-fit-items (item ∷ items) e =
-    let parts = and_parts (is_pipe_item item) (list_all is_pipe_item items) e in
-    let fits = (and_parts (fits_buffer item.bytes) (not item.bytes.no_learn) parts.0).0 in
-    (leb-true (length item.bytes.bytes) 2048 fits, fit-items items parts.1)
 
 length-first : {X : Type 0} (t : ℕ) (xs : List X) → t ≤ length xs → length (take t xs) ≡ t
 length-first zero xs few = refl
@@ -315,7 +306,7 @@ module _ {b : Recorded} {user held : User} {at : PortId} {taken : List Buffer} {
           exchanged b after own target' user held has.between new (item_indices (items_of gots)) taken (buffers_of (drop put.took gots) ++ put.back.items) put.offers has.kept
           (later b after (Put at (items_of gots)) grew) r.is r.out has.more has.sent
           (subst (λ (os : List Offer). HasOffers os (sent_of put.offers.wants put.offers has.kept)) all-theirs
-          (fresh-some (standing after) put.offers has.kept o.stand (λ some. bytes) (subst (Each FitsBuffer) (sym has.kept_are) (each-take FitsBuffer put.took (bytes_in (items_of gots)) (fit-items (items_of gots) r.pipe)))))
+          (fresh-some (standing after) put.offers has.kept o.stand (λ some. bytes)))
           few room refl refl exchange
           (each-append (IsBufferOf b.region) (buffers_of (drop put.took gots)) put.back.items (of-drop b.region put.took gots r.region_is) is_put.is.back_of)
 

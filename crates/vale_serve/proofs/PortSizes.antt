@@ -3,6 +3,7 @@ use Rattle.std.proofs.Common.{ℕ, Bool, true, false, cond, not, ◌≡◌, ◌�
 use Rattle.std.specs.Prelude.{find}
 use Rattle.std.specs.List.{AllByRecursion as Each}
 use Rattle.std.proofs.lemmas.Bool.{and_parts, leb-true, eqb-true}
+use Rattle.nm_types.specs.Limits.{least_ring, most_ring, most_extra}
 use Rattle.nm_types.specs.Names.{is_monitor_name}
 use Rattle.vale_entry.specs.World.{World, Port, due_of}
 use Rattle.nm_types.specs.Openings.{open_refusal as names_refusal}
@@ -22,23 +23,23 @@ use Rattle.vale_serve.specs.Users.{most_due}
 use Rattle.vale_serve.proofs.Sizes.{sizes_by}
 
 record HasSizes (port : Port) : Type 0 where
-  tx : port.tx ≤ 1024
-  rx : port.rx ≤ 1024
-  extra : port.extra ≤ 1024
+  tx : port.tx ≤ most_ring
+  rx : port.rx ≤ most_ring
+  extra : port.extra ≤ most_extra
 
-tx-small : (tx : ℕ) (monitor : Bool) → cond monitor (tx == 0) (is_ring_size tx) ≡ true → tx ≤ 1024
+tx-small : (tx : ℕ) (monitor : Bool) → cond monitor (tx == 0) (is_ring_size tx) ≡ true → tx ≤ most_ring
 tx-small tx true e = let none = eqb-true tx 0 e in omega (arith, none)
-tx-small tx false e = leb-true tx 1024 (and_parts (nat_le 2 tx) (nat_le tx 1024) e).1
+tx-small tx false e = leb-true tx most_ring (and_parts (nat_le least_ring tx) (nat_le tx most_ring) e).1
 
 abbrev Sizes : Standing → Type 0
 Sizes s = Each HasSizes s.world.ports
 
-opened-sizes : (w : World) (name : List ℕ) (tx rx extra : ℕ) → open_refusal w name tx rx extra ≡ None → (tx ≤ 1024) × (rx ≤ 1024) × (extra ≤ 1024)
+opened-sizes : (w : World) (name : List ℕ) (tx rx extra : ℕ) → open_refusal w name tx rx extra ≡ None → (tx ≤ most_ring) × (rx ≤ most_ring) × (extra ≤ most_extra)
 opened-sizes w name tx rx extra none =
     let sizes = sizes_by (are_sizes name tx rx extra) _ (none-first (names_refusal (names_of w.ports) name tx rx extra) _ _ none) in
-    let rings = and_parts _ (is_ring_size rx && nat_le extra 1024) sizes in
-    let ring = and_parts (is_ring_size rx) (nat_le extra 1024) rings.1 in
-    (tx-small tx (is_monitor_name name) rings.0, leb-true rx 1024 (and_parts (nat_le 2 rx) (nat_le rx 1024) ring.0).1, leb-true extra 1024 ring.1)
+    let rings = and_parts _ (is_ring_size rx && nat_le extra most_extra) sizes in
+    let ring = and_parts (is_ring_size rx) (nat_le extra most_extra) rings.1 in
+    (tx-small tx (is_monitor_name name) rings.0, leb-true rx most_ring (and_parts (nat_le least_ring rx) (nat_le rx most_ring) ring.0).1, leb-true extra most_extra ring.1)
 
 sizes-kept : (s : Standing) → Sizes s → EachKind s (λ ask made. Sizes made.next)
 sizes-kept s all =

@@ -1,15 +1,14 @@
 -- A session sends: its offers are those of its entry.
-use Rattle.std.proofs.Common.{ℕ, zero, suc, ◌≡◌, ◌≤◌, ◌+◌, ◌&&◌, Bool, true, false, cond, List, [], ◌∷◌, ◌++◌, length, map, filter, filter_map, take, slice_get, nat_le, Option, Some, None, option_map, refl, sym, ◌∙◌, ap, subst, arith, length-append}
+use Rattle.std.proofs.Common.{ℕ, zero, suc, ◌≡◌, ◌≤◌, ◌+◌, ◌&&◌, Bool, true, false, cond, List, [], ◌∷◌, ◌++◌, length, map, filter, filter_map, take, slice_get, Option, Some, None, option_map, refl, sym, ◌∙◌, ap, subst, arith, length-append}
 use Rattle.std.specs.Prelude.{vec_capacity, Vec}
-use Rattle.std.specs.List.{AllByRecursion as Each, list_all, cons_option}
+use Rattle.std.specs.List.{AllByRecursion as Each, cons_option}
 use Rattle.std.specs.Option.{option_map_or}
 use Rattle.std.specs.declared.alloc.Global.{Global}
-use Rattle.std.proofs.lemmas.Bool.{and_parts, eqb-true, leb-true}
+use Rattle.std.proofs.lemmas.Bool.{and_parts, eqb-true}
 use Rattle.nm_types.specs.declared.fault.StepFault.TheVariants as faults
-use Rattle.nm_types.specs.Frames.{Frame, size_of_frames}
+use Rattle.nm_types.specs.Frames.{Frame}
 use Rattle.nm_types.specs.Names.{is_switch_port_name}
-use Rattle.nm_types.specs.Limits.{most_batch}
-use Rattle.nm_types.specs.Sendable.{is_sendable, fits_buffer}
+use Rattle.nm_types.specs.Sendable.{is_sendable}
 use Rattle.nm_types.specs.declared.id.PortId.{PortId}
 use Rattle.nm_types.specs.declared.id.SessionId.{SessionId}
 use Rattle.nm_region.specs.Buffers.{Buffer, indices_of}
@@ -37,7 +36,7 @@ use Rattle.vale_book.specs.Sending.{IsSent}
 use Rattle.vale_book.specs.declared.asking.PortSeen.{PortSeen}
 use Rattle.vale_serve.specs.declared.users.Sent.{Sent}
 use Rattle.vale_serve.specs.declared.users.User.{User}
-use Rattle.vale_serve.specs.Users.{FitsBuffer, HasOffers, AreHeldAs, AreSame, IsRoom, HasOwn, IsUser, IsAsker, HasSent, contents, sent_of, wants_left, number_of, is_settled_user}
+use Rattle.vale_serve.specs.Users.{HasOffers, AreHeldAs, AreSame, IsRoom, HasOwn, IsUser, IsAsker, HasSent, contents, sent_of, wants_left, number_of, is_settled_user}
 use Rattle.vale_serve.proofs.Keeping.{IsLater, grown, step-follows, leases-later, rise-later, of-later, same-ports}
 use Rattle.vale_serve.proofs.Acting.{Said, said, later, acts, mine-by, settled-user, settled-parts, some-step, no-memory}
 
@@ -102,18 +101,6 @@ pub wants-left : (wants : List Wanted) (offers : OffersState) (kept : Vec (Vec �
 wants-left [] offers kept e = refl
 wants-left (want ∷ wants) offers kept e = ap (λ (ws : List Wanted). length ws) e
 
-all-fit : (frames : List Frame) → list_all fits_buffer frames ≡ true → Each FitsBuffer (bytes_of frames)
-all-fit [] e = tt
-all-fit (frame ∷ frames) e =
-    let parts = and_parts (fits_buffer frame) (list_all fits_buffer frames) e in
-    (leb-true (length frame.bytes) 2048 parts.0, all-fit frames parts.1)
-
-sendable-fit : (frames : List Frame) → is_sendable frames ≡ true → Each FitsBuffer (bytes_of frames)
-sendable-fit frames e =
-    let outer = and_parts (nat_le (length frames) most_batch) (nat_le (size_of_frames frames) most_batch && list_all fits_buffer frames) e in
-    let inner = and_parts (nat_le (size_of_frames frames) most_batch) (list_all fits_buffer frames) outer.1 in
-    all-fit frames inner.1
-
 -- ---- offers that were just made
 
 none-offered : (frames : List Frame) (offers : List Offer) → AreOffersOf frames [] offers → offers ≡ []
@@ -121,8 +108,8 @@ none-offered frames [] are = refl
 none-offered frames (offer ∷ offers) are = absurd are
 
 pub fresh-offers : (s : Standing) (offers : OffersState) (kept : Vec (Vec ℕ Global) Global) (st : OffersStand s offers) → contents kept.items ≡ bytes_of st.frames
-    → Each FitsBuffer (contents kept.items) → HasOffers (offers_at s.world offers.entry) (sent_of offers.wants offers kept)
-fresh-offers s offers kept st bytes few = by offers.wants refl st.are
+    → HasOffers (offers_at s.world offers.entry) (sent_of offers.wants offers kept)
+fresh-offers s offers kept st bytes = by offers.wants refl st.are
   where
     by : (wants : List Wanted) → offers.wants ≡ wants → AreOffersOf st.frames wants (offers_at s.world offers.entry) → HasOffers (offers_at s.world offers.entry) (sent_of wants offers kept)
     by [] e are = none-offered st.frames (offers_at s.world offers.entry) are
@@ -130,7 +117,6 @@ fresh-offers s offers kept st bytes few = by offers.wants refl st.are
       some = let long = ap (λ (ws : List Wanted). length ws) e in omega (arith, long);
       frames = st.frames;
       bytes = bytes;
-      few = few;
       are = st.are;
       of = each-weaker (λ (o : Offer). is_offer_of offers.entry o ≡ true) (λ (o : Offer). o.origin ≡ offers.entry) (λ o t. eqb-true o.origin offers.entry t) (offers_at s.world offers.entry)
           (filter-passes (is_offer_of offers.entry) s.world.offers);
@@ -198,7 +184,7 @@ module _ (b after : Recorded) (user : User) (at : PortId) (port : Port) (frames 
         record {
           offers = subst (λ (x : Option Sent). HasOffers target.offers x) (sym has.sent)
               (subst (λ (os : List Offer). HasOffers os (sent_of offers.wants offers kept)) theirs
-              (fresh-offers (standing after) offers kept sent.stand fit (subst (Each FitsBuffer) (sym bytes) (sendable-fit frames sendable))));
+              (fresh-offers (standing after) offers kept sent.stand fit));
           leases = leases-later b after l own.leases new.leases.items (subst (λ (ls : List Leased). AreHeldAs b own.leases ls) (ap (λ v. v.items) (sym has.leases)) is.leases);
           rise = rise-later b after l (map number_of own.leases) is.rise;
           buffers = subst (λ (bufs : List Buffer). AreSame (indices_of bufs) own.buffers) (ap (λ v. v.items) (sym has.bufs)) is.buffers;

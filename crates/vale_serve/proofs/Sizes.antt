@@ -1,6 +1,7 @@
 -- The sizes of a port that is opened.
 use Rattle.std.proofs.Common.{ℕ, List, ◌+◌, ◌≡◌, ◌≤◌, ◌==◌, ◌&&◌, not, nat_le, Bool, true, false, cond, min, length, take, length-take, refl, sym, arith, Option, Some, None, option_map}
 use Rattle.std.proofs.lemmas.Bool.{and_parts, leb-true, eqb-true}
+use Rattle.nm_types.specs.Limits.{least_ring, most_ring, most_extra}
 use Rattle.nm_types.specs.Names.{is_monitor_name}
 use Rattle.nm_types.specs.declared.fault.OpenFault.{OpenFault}
 use Rattle.nm_types.specs.declared.fault.OpenFault.TheVariants.{BadSize}
@@ -16,20 +17,20 @@ pub sizes_by : (b : Bool) (rest : Option OpenFault) → cond (not b) (Some BadSi
 sizes_by true rest e = refl
 sizes_by false rest e = absurd cc
 
-tx_few : (n tx : ℕ) (monitor : Bool) → n ≤ tx → cond monitor (tx == 0) (is_ring_size tx) ≡ true → n ≤ cond monitor 0 (min tx 1024)
+tx_few : (n tx : ℕ) (monitor : Bool) → n ≤ tx → cond monitor (tx == 0) (is_ring_size tx) ≡ true → n ≤ cond monitor 0 (min tx most_ring)
 tx_few n tx true low e = let none = eqb-true tx 0 e in omega (arith, none, low)
-tx_few n tx false low e = let most = leb-true tx 1024 (and_parts (nat_le 2 tx) (nat_le tx 1024) e).1 in omega (arith, low, most)
+tx_few n tx false low e = let most = leb-true tx most_ring (and_parts (nat_le least_ring tx) (nat_le tx most_ring) e).1 in omega (arith, low, most)
 
-extra_few : (n extra : ℕ) → n ≤ extra → nat_le extra 1024 ≡ true → n ≤ min extra 1024
-extra_few n extra low e = let most = leb-true extra 1024 e in omega (arith, low, most)
+extra_few : (n extra : ℕ) → n ≤ extra → nat_le extra most_extra ≡ true → n ≤ min extra most_extra
+extra_few n extra low e = let most = leb-true extra most_extra e in omega (arith, low, most)
 
 sizes-fit : (names : List (List ℕ)) (name : List ℕ) (tx rx extra n m : ℕ) → None ≡ names_refusal names name tx rx extra → n ≤ tx → m ≤ extra
     → n + m ≤ most_given name tx extra
 sizes-fit names name tx rx extra n m e low small =
     let sizes = sizes_by (are_sizes name tx rx extra) _ (sym e) in
-    let rings = and_parts _ (is_ring_size rx && nat_le extra 1024) sizes in
+    let rings = and_parts _ (is_ring_size rx && nat_le extra most_extra) sizes in
     let one = tx_few n tx (is_monitor_name name) low rings.0 in
-    let two = extra_few m extra small (and_parts (is_ring_size rx) (nat_le extra 1024) rings.1).1 in
+    let two = extra_few m extra small (and_parts (is_ring_size rx) (nat_le extra most_extra) rings.1).1 in
     omega (arith, one, two)
 
 -- what was answered so was not refused

@@ -1,20 +1,19 @@
--- Copies of frames that lie in one buffer each, in memory that was kept for them.
-use Rattle.std.specs.Prelude.{ℕ, ◌≡◌, ◌≤◌, List, [], length, map, vec_capacity, Vec}
-use Rattle.std.specs.List.{AllByRecursion}
+-- Copies of received frames, in memory that was kept for them.
+use Rattle.std.specs.Prelude.{ℕ, ◌≡◌, ◌≤◌, ◌*◌, List, [], ◌∷◌, vec_capacity, Vec}
 use Rattle.std.specs.declared.alloc.Global.{Global}
-use Rattle.vale_line.specs.declared.got.Got.{Got}
-use Rattle.vale_line.specs.Gots.{part_in}
+use Rattle.nm_types.specs.Limits.{buffer_bytes}
 use Rattle.vale_serve.specs.declared.copying.CopyRoom.TheInside.{Inside}
 
--- memory for a frame of one buffer
-abbrev pub IsFrameRoom : Vec ℕ Global → Type 0
-IsFrameRoom room = (room.items ≡ []) × (2048 ≤ vec_capacity room)
+-- memory for a frame of so many slots
+abbrev pub IsFrameRoom : ℕ → Vec ℕ Global → Type 0
+IsFrameRoom size room = (room.items ≡ []) × (buffer_bytes * size ≤ vec_capacity room)
 
-pub record IsCopyRoom (room : Inside) : Type 0 where
-  pub rooms : AllByRecursion IsFrameRoom room.rooms.items
-  pub none : room.all.items ≡ []
-  pub space : length room.rooms.items ≤ vec_capacity room.all
+-- for a frame of each of these sizes
+abbrev pub AreFrameRooms : List (Vec ℕ Global) → List ℕ → Type 0
+AreFrameRooms [] [] = Unit {0}
+AreFrameRooms [] (size ∷ sizes) = ⊥
+AreFrameRooms (room ∷ rooms) [] = ⊥
+AreFrameRooms (room ∷ rooms) (size ∷ sizes) = IsFrameRoom size room × AreFrameRooms rooms sizes
 
--- the bytes in these buffers
-abbrev pub parts_in : List Got → List (List ℕ)
-parts_in gots = map part_in gots
+abbrev pub IsCopyRoom : Inside → Type 0
+IsCopyRoom room = AreFrameRooms room.rooms.items room.sizes.items

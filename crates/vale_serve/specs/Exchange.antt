@@ -1,15 +1,13 @@
 -- Buffers of a session go, others come, and offers are made.
 use Rattle.std.specs.Prelude.{ℕ, ◌≡◌, ◌≤◌, ◌+◌, List, ◌++◌, length, take, vec_capacity, Vec}
-use Rattle.std.specs.List.{AllByRecursion}
 use Rattle.std.specs.declared.alloc.Global.{Global}
 use Rattle.nm_region.specs.Buffers.{Buffer}
 use Rattle.vale_line.specs.declared.got.Got.{Got}
-use Rattle.vale_line.specs.Gots.{buffers_of}
+use Rattle.vale_line.specs.Gots.{buffers_of, frames_in}
 use Rattle.vale_book.specs.Offering.{OffersState}
 use Rattle.vale_serve.specs.declared.users.User.{User}
 use Rattle.vale_serve.specs.Buffers.{AreTaken}
-use Rattle.vale_serve.specs.Copies.{parts_in}
-use Rattle.vale_serve.specs.Users.{FitsBuffer, contents, HasSent}
+use Rattle.vale_serve.specs.Users.{contents, HasSent}
 use Rattle.std.specs.List.Sorted.{IsPermutation, IsNonDecreasingBy}
 
 -- these were taken out of its buffers
@@ -34,8 +32,7 @@ pub record HasRead (old : User) (gots : List Got) (offers : OffersState) (copies
   pub between : User
   pub more : HasMore old (buffers_of gots) between
   pub frames : Vec (Vec ℕ Global) Global
-  pub copied : contents frames.items ≡ parts_in (take copies gots)
-  pub few : AllByRecursion FitsBuffer (contents frames.items)
+  pub copied : contents frames.items ≡ take copies (frames_in gots)
   pub sent : HasSent between offers frames new
 
 -- there is room for so many buffers more, and for a lease

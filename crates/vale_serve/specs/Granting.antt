@@ -1,13 +1,12 @@
 -- The grant of the next offer of a session, with its lease filled.
 use Rattle.std.specs.Prelude.{true, ◌≡◌, ◌≤◌, List, [], ◌∷◌, ◌++◌, None, vec_capacity, length, drop, slice_get, Option, Some, IfSome, IfNone, option_map}
-use Rattle.std.specs.List.{AllByRecursion}
 use Rattle.nm_types.specs.declared.id.PortId.{PortId}
 use Rattle.vale_batch.specs.Wants.{Wanted}
 use Rattle.vale_line.specs.Leased.{Leased}
 use Rattle.vale_entry.specs.declared.entry.Ask.TheVariants.{Grant}
 use Rattle.vale_entry.specs.declared.entry.Reply.{Reply}
 pub use Rattle.vale_entry.specs.Grant.{given_in}
-use Rattle.vale_entry.specs.Legal.{step, reply_of}
+use Rattle.vale_entry.specs.Legal.{step, reply_of, IsLegal}
 use Rattle.vale_port.specs.Kept.{bytes_of}
 use Rattle.vale_book.specs.Offering.{OffersStand}
 use Rattle.vale_book.specs.Recorded.{Recorded, standing, after_ask, HasRoom}
@@ -15,14 +14,14 @@ use Rattle.vale_book.specs.Leases.{IsLeaseBy}
 use Rattle.vale_serve.specs.declared.users.Sent.{Sent}
 use Rattle.vale_serve.specs.declared.users.User.{User}
 use Rattle.vale_serve.specs.Filling.{IsFilledWith}
-use Rattle.vale_serve.specs.Users.{FitsBuffer, contents, next_is}
+use Rattle.vale_serve.specs.Users.{contents, next_is}
 
--- some offers stand still, and their frames are at hand
+-- some offers stand still in a legal history, and their frames are at hand
 pub record CanGrant (b : Recorded) (sent : Sent) : Type 0 where
+  pub legal : IsLegal b.pool b.entries
   pub stand : OffersStand (standing b) sent.offers
   pub some : 1 ≤ length sent.offers.wants
   pub bytes : contents sent.frames.items ≡ bytes_of stand.frames
-  pub few : AllByRecursion FitsBuffer (contents sent.frames.items)
 
 -- the grant gave a lease, which is filled with the frames that were wanted first
 pub record IsLeased (old new : Recorded) (sent : Sent) (lease : Leased) : Type 0 where

@@ -2,6 +2,7 @@
 use Rattle.std.specs.Prelude.{ℕ, ◌≡◌, ◌≤◌, ◌+◌, ◌++◌, ◌∷◌, [], if◌then◌else◌, List, length, min, vec_len, vec_capacity, Vec, Result, Ok, Err}
 use Rattle.std.specs.declared.alloc.Global.{Global}
 use Rattle.nm_types.specs.Names.{is_monitor_name}
+use Rattle.nm_types.specs.Limits.{most_extra, most_ring}
 use Rattle.nm_types.specs.declared.fault.StepFault.TheVariants as steps
 use Rattle.nm_types.specs.declared.fault.StepFault.{StepFault}
 use Rattle.nm_types.specs.declared.fault.OpenFault.{OpenFault}
@@ -24,7 +25,7 @@ unopened NoMemory = Err steps.NoMemory
 
 -- the most buffers that an opening gives to its session; a monitor has no transmit ring
 abbrev pub most_given : List ℕ → ℕ → ℕ → ℕ
-most_given name tx extra = (if is_monitor_name name then 0 else min tx 1024) + min extra 1024
+most_given name tx extra = (if is_monitor_name name then 0 else min tx most_ring) + min extra most_extra
 
 -- there is room for the buffers of an opening of this name and these sizes, and for its port's room
 pub record CanTake (name : List ℕ) (tx extra : ℕ) (user : User) : Type 0 where

@@ -18,14 +18,14 @@ abbrev pub can_read : Bool → List ℕ → User → PortSeen → Bool
 can_read is_pipe back user seen =
     is_read_so is_pipe seen.name && (is_settled_user user && (nat_le (length back) seen.out && holds_all user.bufs.items back))
 
--- the frames that are ready are copied where a monitor is offered them
-abbrev pub copies_of : Ready → ℕ
-copies_of ready = if ready.is_watched then ready.count else 0
+-- the frames that are ready, of these sizes, are copied where a monitor is offered them
+abbrev pub copied_sizes : Ready → List ℕ → List ℕ
+copied_sizes ready sizes = if ready.is_watched then sizes else []
 
 -- memory for so many buffers that come back, and for what is offered
-pub record IsReadRoom (ready : Ready) (named : List ℕ) (room : ReadRoom) : Type 0 where
+pub record IsReadRoom (sizes named : List ℕ) (room : ReadRoom) : Type 0 where
   pub none : room.back.items ≡ []
   pub back : length named ≤ vec_capacity room.back
-  pub copies : room.copies ≡ copies_of ready
+  pub copies : room.copies ≡ sizes
   pub no_dests : room.to.items ≡ []
   pub dests : 1 ≤ vec_capacity room.to

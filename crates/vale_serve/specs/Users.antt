@@ -3,6 +3,7 @@ use Rattle.std.specs.Prelude.{ℕ, Bool, false, slice_get, not, is_some, ◌&&�
 use Rattle.std.specs.List.{AllByRecursion, list_any}
 use Rattle.std.specs.declared.alloc.Global.{Global}
 use Rattle.nm_types.specs.Frames.{Frame}
+use Rattle.nm_types.specs.Limits.{most_ring, most_extra}
 use Rattle.nm_types.specs.declared.id.PortId.{PortId}
 use Rattle.nm_region.specs.Buffers.{Buffer, indices_of}
 use Rattle.vale_line.specs.Gots.{buffers_of}
@@ -35,16 +36,11 @@ is_user id user = user.id.0 == id
 abbrev pub contents : List (Vec ℕ Global) → List (List ℕ)
 contents frames = map (λ (frame : Vec ℕ Global). frame.items) frames
 
--- a frame that takes one slot
-abbrev pub FitsBuffer : List ℕ → Type 0
-FitsBuffer bytes = length bytes ≤ 2048
-
 -- these are not granted of the frames of an entry
 pub record AreOffered (offers : List Offer) (sent : Sent) : Type 0 where
   pub some : 1 ≤ length sent.offers.wants
   pub frames : List Frame
   pub bytes : contents sent.frames.items ≡ bytes_of frames
-  pub few : AllByRecursion FitsBuffer (contents sent.frames.items)
   pub are : AreOffersOf frames sent.offers.wants offers
   pub of : AllByRecursion (λ (offer : Offer). offer.origin ≡ sent.offers.entry) offers
   pub by : AllByRecursion (IsOfferBy sent.offers.session) offers
@@ -86,7 +82,7 @@ AreSame ms ns = (n : ℕ) → count_by (λ m. m == n) ms ≡ count_by (λ m. m =
 -- the most buffers that a session holds for one port: a transmit ring's, extra ones and a receive
 -- ring's
 abbrev pub most_due : ℕ
-most_due = 3072
+most_due = most_ring + most_extra + most_ring
 
 -- memory for the buffers that go with a port
 abbrev pub IsMemory : Vec Buffer Global → Type 0

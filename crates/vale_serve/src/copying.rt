@@ -1,80 +1,90 @@
-ghost use Rattle.std.specs.Prelude.{◌≡◌, ◌≤◌, length, take, IfOk};
-ghost use Rattle.std.specs.List.{AllByRecursion};
-ghost use Rattle.vale_line.specs.Gots.{part_in};
-ghost use Rattle.vale_serve.specs.Copies.{IsFrameRoom, parts_in};
-ghost use Rattle.vale_serve.specs.Users.{FitsBuffer, contents};
+ghost use Rattle.std.specs.Prelude.{◌≡◌, ◌≤◌, ◌+◌, ◌++◌, length, map, take, vec_capacity, IfOk};
+ghost use Rattle.nm_types.specs.Parts.{slots_of_bytes};
+ghost use Rattle.vale_line.specs.Gots.{IsCut, frames_in, joined_parts};
+ghost use Rattle.vale_serve.specs.Copies.{AreFrameRooms, IsFrameRoom};
+ghost use Rattle.vale_serve.specs.Users.{contents};
 
 use nm_types::BUFFER_BYTES;
 use std::alloc::{AllocError, Global};
 use std::marker::Model;
 use vale_line::Got;
 
-/// Memory for copies of so many frames, each of which lies in one buffer.
+/// Memory for copies of frames of these sizes, in slots.
 #[derive(Drop)]
 pub(crate) struct CopyRoom {
+    sizes: Vec<u32>,
     rooms: Vec<Vec<u8>>,
-    all: Vec<Vec<u8>>,
 }
 
 impl Model for CopyRoom {
-    ghost use Rattle.std.specs.Prelude.{ℕ, length};
+    ghost use Rattle.std.specs.Prelude.{ℕ, List};
 
-    ghost Value = { ℕ };
+    ghost Value = { List ℕ };
 
     ghost use Rattle.vale_serve.specs.Copies.{IsCopyRoom};
 
-    ghost view = { λ r. length r.rooms.items };
+    ghost view = { λ r. r.sizes.items };
 
     ghost invariant = { IsCopyRoom };
 }
 
-/// Memory for each of so many frames.
-fn frame_rooms(alloc: Global, count: usize) -> Result<Vec<Vec<u8>>, AllocError>
-    ensures count { IfOk result (λ rooms. length rooms.items ≡ count) }
-    ensures each { IfOk result (λ rooms. AllByRecursion IsFrameRoom rooms.items) }
+/// Memory for a frame of each of these sizes.
+fn frame_rooms(alloc: Global, sizes: &[u32]) -> Result<Vec<Vec<u8>>, AllocError>
+    ensures { IfOk result (λ rooms. AreFrameRooms rooms.items sizes.now) }
 {
-    let mut rooms = Vec::with_capacity(alloc, count)?;
-    while rooms.len() < count {
-        rooms.push_reserved(Vec::with_capacity(alloc, BUFFER_BYTES)?);
+    let mut rooms = Vec::with_capacity(alloc, sizes.len())?;
+    for i in 0..sizes.len() {
+        let room = BUFFER_BYTES * sizes[i] as usize;
+        rooms.push_reserved(Vec::with_capacity(alloc, room)?);
     }
     Ok(rooms)
 }
 
-/// The frame in a buffer, copied into memory that was kept for it.
-fn copied(mut to: Vec<u8>, got: &Got) -> Vec<u8>
-    requires { IsFrameRoom to }
-    ensures bytes { result.items ≡ part_in got.now }
-    ensures few { FitsBuffer result.items }
+/// Puts bytes behind others, where there is room.
+fn append(to: &mut Vec<u8>, bytes: &[u8])
+    requires { length to.old.items + length bytes.now ≤ vec_capacity to.old }
+    ensures items { to.new.items ≡ to.old.items ++ bytes.now }
+    ensures capacity { vec_capacity to.old ≤ vec_capacity to.new }
 {
-    let bytes = got.buf.bytes();
-    let len = bytes.len().min(got.len as usize);
-    match to.extend_from_slice(&bytes[..len]) {
-        Ok(()) => to,
+    match to.extend_from_slice(bytes) {
+        Ok(()) => {}
         Err(_) => unreachable!(),
     }
 }
 
+/// Copies the frame in these buffers into memory that was kept for it.
+#[tactic(auto, using(crate::proofs::Copied::joins))]
+fn join(to: &mut Vec<u8>, gots: &[Got])
+    requires { IsFrameRoom (length gots.now) to.old }
+    ensures { to.new.items ≡ joined_parts gots.now }
+{
+    for i in 0..gots.len() {
+        append(to, gots[i].part());
+    }
+}
+
 impl CopyRoom {
-    /// Makes room for copies of so many frames.
-    pub(crate) fn new(alloc: Global, count: u32) -> Result<CopyRoom, AllocError>
-        ensures { IfOk result (λ room. room ≡ count) }
+    /// Makes room for copies of frames of these sizes.
+    pub(crate) fn new(alloc: Global, sizes: Vec<u32>) -> Result<CopyRoom, AllocError>
+        ensures { IfOk result (λ room. room ≡ sizes.items) }
     {
-        let rooms = frame_rooms(alloc, count as usize)?;
-        let all = Vec::with_capacity(alloc, count as usize)?;
-        Ok(CopyRoom { rooms, all })
+        let rooms = frame_rooms(alloc, &sizes)?;
+        Ok(CopyRoom { sizes, rooms })
     }
 
-    /// Copies the frames in the first of these buffers, as many as there is room for.
+    /// Copies the first of the frames in these buffers, as many as there is room for.
     pub(crate) fn copy(self, gots: &[Got]) -> Vec<Vec<u8>>
-        requires { self ≤ length gots.now }
-        ensures copies { contents result.items ≡ parts_in (take self gots.now) }
-        ensures few { AllByRecursion FitsBuffer (contents result.items) }
+        requires cut { IsCut gots.now }
+        requires sizes { self ≡ map slots_of_bytes (take (length self) (frames_in gots.now)) }
+        ensures { contents result.items ≡ take (length self) (frames_in gots.now) }
     {
-        let CopyRoom { mut rooms, mut all } = self;
-        let count = rooms.len();
-        for i in 0..count {
-            all.push_reserved(copied(rooms.take_last(), &gots[i]));
+        let CopyRoom { sizes, mut rooms } = self;
+        let mut at = 0;
+        for i in 0..sizes.len() {
+            let end = at + sizes[i] as usize;
+            join(&mut rooms[i], &gots[at..end]);
+            at = end;
         }
-        all
+        rooms
     }
 }

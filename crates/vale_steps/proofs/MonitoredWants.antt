@@ -1,21 +1,24 @@
 -- The want of a monitor stands among the others by its port's id.
-use Rattle.std.proofs.Common.{ℕ, zero, suc, Bool, true, false, cond, ◌≡◌, ◌+◌, ◌<◌, ◌≤◌, ◌==◌, List, [], ◌∷◌, ◌++◌, length, map, take, drop, get_or, refl, sym, ◌∙◌, ap, subst, arith}
+use Rattle.std.proofs.Common.{ℕ, zero, suc, Bool, true, false, ◌==◌, ◌≡◌, ◌+◌, ◌<◌, ◌≤◌, List, [], ◌∷◌, ◌++◌, length, map, take, drop, get_or, refl, sym, ◌∙◌, ap, arith}
 use Rattle.std.specs.Prelude.{Option, Some, None, option_map, position, replicate, reverse, slice_get}
-use Rattle.std.specs.List.{list_any, insert}
-use Rattle.std.proofs.lemmas.List.{length-replicate, map-append, reverse-append, reverse-reverse, take_all}
+use Rattle.std.specs.List.{list_all, list_any, insert, range_with_len}
+use Rattle.std.proofs.lemmas.List.{length-map, map-append, reverse-append, reverse-reverse, take_all}
 use Rattle.vale_entry.specs.declared.entry.Dest.{Dest}
-use Rattle.std.proofs.lemmas.Bool.{ne_eqb, or_parts}
+use Rattle.std.proofs.lemmas.Bool.{and_parts, leb-true, or_parts}
 use Rattle.std.proofs.lemmas.List.Quantifiers.{position-Some}
 use Rattle.nm_types.specs.Frames.{Frame, slots_of}
+use Rattle.nm_types.specs.Sendable.{fits_buffer}
+use Rattle.nm_types.proofs.PartLemmas.{slots-one}
 use Rattle.nm_types.specs.declared.id.PortId.{PortId}
 use Rattle.vale_names.proofs.SwitchLemmas.{position_none}
 use Rattle.vale_batch.specs.declared.lists.Want.{Want}
 use Rattle.vale_batch.specs.Wants.{Wanted, wanted, port_number}
-use Rattle.vale_parts.specs.Batches.{with_want, want_of_all, wants_monitored, dests_wanted}
+use Rattle.vale_parts.specs.Batches.{with_want, wants_monitored, dests_wanted}
 use Rattle.vale_parts.specs.Ids.{id_of}
+use Rattle.vale_port.specs.Ports.{sizes_of}
 use Rattle.vale_steps.specs.Monitored.{wants_by}
-use Rattle.vale_steps.specs.Wanting.{want_all, dest_in, is_behind}
-use Rattle.vale_steps.proofs.SmallWants.{small-slots, small-few, frames-of}
+use Rattle.vale_steps.specs.Wanting.{want_all, wants_with, sizes_for, dest_in, is_behind}
+use Rattle.vale_steps.proofs.SmallWants.{small-slots, small-few}
 
 placed : (want : Want) (wants : List Want) (place : ℕ) → place < length wants → is_behind want.to.0 (get_or wants place want) ≡ true
     → ((k : ℕ) → k < place → is_behind want.to.0 (get_or wants k want) ≡ false) → map wanted (insert wants place want) ≡ with_want (wanted want) (map wanted wants)
@@ -38,56 +41,62 @@ last-of want (first ∷ wants) none =
 pub put-last : (want : Want) (wants : List Want) → position (is_behind want.to.0) wants ≡ None → map wanted (wants ++ want ∷ []) ≡ with_want (wanted want) (map wanted wants)
 put-last want wants is = last-of want wants (position_none (is_behind want.to.0) wants is)
 
--- each frame takes one slot
-ones-of : (frames : List Frame) → map slots_of frames ≡ replicate (length frames) 1
-ones-of [] = refl
-ones-of (frame ∷ frames) = ap (λ (ns : List ℕ). 1 ∷ ns) (ones-of frames)
+-- whether there are sizes, as it is tested
 
-all-wanted : (monitor : PortId) (frames : List Frame) (count : ℕ) → length frames ≡ count → want_of_all monitor.0 frames ≡ want_all monitor count
-all-wanted monitor frames count size = rw (ones-of frames, size) refl
+pub some-sizes : (b : Bool) (n m : ℕ) → b ≡ false → b ≡ (n == 0) → n ≡ m → 0 < m
+some-sizes b zero m e is same = absurd (let none : b ≡ true = is in let wrong = sym none ∙ e in cc)
+some-sizes b (suc n) m e is same = omega (arith, same)
 
-pub monitored-seen : (monitor : PortId) (count : ℕ) (wants new : List Wanted) (want : Wanted) → 0 < count
-    → want ≡ want_all monitor count → new ≡ with_want want wants
-    → (frames : List Frame) → length frames ≡ count → new ≡ wants_monitored (Some monitor.0) frames wants
-monitored-seen monitor count wants new want some all made [] size = absurd (omega (arith, some, size))
-monitored-seen monitor count wants new want some all made (frame ∷ frames) size =
-    made ∙ ap (λ (w : Wanted). with_want w wants) (all ∙ sym (all-wanted monitor (frame ∷ frames) count size))
+pub seen-with : (monitor : PortId) (sizes : List ℕ) (wants new : List Wanted) (want : Wanted) → 0 < length sizes
+    → want ≡ want_all monitor sizes → new ≡ with_want want wants → new ≡ wants_with (Some monitor) sizes wants
+seen-with monitor [] wants new want some all made = absurd (omega (arith, some))
+seen-with monitor (size ∷ sizes) wants new want some all made = made ∙ ap (λ (w : Wanted). with_want w wants) all
+
+pub seen-none : (monitor : Option PortId) (sizes : List ℕ) (wants : List Wanted) → length sizes ≡ 0 → wants ≡ wants_with monitor sizes wants
+seen-none None sizes wants none = refl
+seen-none (Some to) [] wants none = refl
+seen-none (Some to) (size ∷ sizes) wants none = absurd (omega (arith, none))
+
+-- the sizes are those of frames
+pub wants-are : (monitor : Option PortId) (frames : List Frame) (wants : List Wanted) → wants_with monitor (sizes_for monitor frames) wants ≡ wants_monitored (option_map port_number monitor) frames wants
+wants-are None frames wants = refl
+wants-are (Some to) [] wants = refl
+wants-are (Some to) (f ∷ fs) wants =
+    ap (λ (n : ℕ). let want : Wanted = record { to = to; places = range_with_len 0 n; sizes = sizes_of (f ∷ fs) } in with_want want wants) (length-map (f ∷ fs) slots_of)
 
 -- ---- a monitor alone
 
-pub wants-monitored : (monitor : Option PortId) (frames : List Frame) (count : ℕ) (id : Option ℕ) → count ≡ length frames → id_of monitor ≡ id → wants_by monitor count ≡ wants_monitored id frames []
-wants-monitored monitor frames count id is same =
-    subst (λ (n : ℕ). wants_by monitor n ≡ wants_monitored id frames []) (sym is) (subst (λ (o : Option ℕ). wants_by monitor (length frames) ≡ wants_monitored o frames []) same (by-cases monitor frames))
-  where
-    by-cases : (monitor : Option PortId) (frames : List Frame) → wants_by monitor (length frames) ≡ wants_monitored (id_of monitor) frames []
-    by-cases None frames = refl
-    by-cases (Some to) [] = refl
-    by-cases (Some to) (f ∷ fs) =
-        let some : (length (f ∷ fs) == 0) ≡ false = ne_eqb (length (f ∷ fs)) 0 (λ none. absurd (omega (arith, none))) in
-        ap (λ (b : Bool). cond b [] (want_all to (length (f ∷ fs)) ∷ [])) some ∙ ap (λ (w : Wanted). w ∷ []) (sym (all-wanted to (f ∷ fs) (length (f ∷ fs)) refl))
+pub wants-monitored : (monitor : Option PortId) (frames : List Frame) (sizes : List ℕ) (id : Option ℕ) → sizes ≡ sizes_for monitor frames → id_of monitor ≡ id
+    → wants_by monitor sizes ≡ wants_monitored id frames []
+wants-monitored monitor frames sizes id are same =
+    ap (wants_by monitor) are ∙ (wants-are monitor frames [] ∙ ap (λ (o : Option ℕ). wants_monitored o frames []) same)
 
--- whatever the frames are
-pub wanted-by : (monitor : Option PortId) (count : ℕ) (wants : List Wanted)
-    → ((frames : List Frame) → length frames ≡ count → wants ≡ wants_monitored (option_map port_number monitor) frames []) → wants ≡ wants_by monitor count
-wanted-by monitor count wants are =
-    let size : length (frames-of count) ≡ count = length-replicate count (record { bytes = []; no_learn = false }) in
-    are (frames-of count) size ∙ sym (wants-monitored monitor (frames-of count) count (option_map port_number monitor) (sym size) refl)
+-- frames that each fit a buffer take one slot each
+ones-of : (frames : List Frame) → list_all fits_buffer frames ≡ true → replicate (length frames) 1 ≡ sizes_of frames
+ones-of [] fit = refl
+ones-of (f ∷ fs) fit =
+    let parts = and_parts (fits_buffer f) (list_all fits_buffer fs) fit in
+    let one : slots_of f ≡ 1 = slots-one (length f.bytes) (leb-true (length f.bytes) 2048 parts.0) in
+    ap (λ (n : ℕ). n ∷ replicate (length fs) 1) (sym one) ∙ ap (λ (ns : List ℕ). slots_of f ∷ ns) (ones-of fs parts.1)
+
+pub wants-put : (monitor : Option PortId) (frames : List Frame) (count : ℕ) (id : Option ℕ) → count ≡ length frames → list_all fits_buffer frames ≡ true → id_of monitor ≡ id
+    → wants_by monitor (replicate count 1) ≡ wants_monitored id frames []
+wants-put None frames count id is fit same = ap (λ (o : Option ℕ). wants_monitored o frames []) same
+wants-put (Some to) frames count id is fit same =
+    wants-monitored (Some to) frames (replicate count 1) id (ap (λ (n : ℕ). replicate n 1) is ∙ ones-of frames fit) same
 
 -- there is one at most
-one-by : (monitor : Option PortId) (count : ℕ) → length (wants_by monitor count) ≤ 1
-one-by None count = omega arith
-one-by (Some to) count = by_count (count == 0)
-  where
-    by_count : (b : Bool) → (let wants : List Wanted = cond b [] (want_all to count ∷ []) in length wants ≤ 1)
-    by_count true = omega arith
-    by_count false = omega arith
+one-by : (monitor : Option PortId) (sizes : List ℕ) → length (wants_by monitor sizes) ≤ 1
+one-by None sizes = omega arith
+one-by (Some to) [] = omega arith
+one-by (Some to) (size ∷ sizes) = omega arith
 
-pub one-want : (wants : List Want) (monitor : Option PortId) (count : ℕ) → map wanted wants ≡ wants_by monitor count → length wants ≤ 1
-one-want [] monitor count is = omega arith
-one-want (w ∷ []) monitor count is = omega arith
-one-want (w ∷ v ∷ ws) monitor count is =
-    let few = one-by monitor count in
-    let same : length (map wanted (w ∷ v ∷ ws)) ≡ length (wants_by monitor count) = ap (λ (xs : List Wanted). length xs) is in
+pub one-want : (wants : List Want) (monitor : Option PortId) (sizes : List ℕ) → map wanted wants ≡ wants_by monitor sizes → length wants ≤ 1
+one-want [] monitor sizes is = omega arith
+one-want (w ∷ []) monitor sizes is = omega arith
+one-want (w ∷ v ∷ ws) monitor sizes is =
+    let few = one-by monitor sizes in
+    let same : length (map wanted (w ∷ v ∷ ws)) ≡ length (wants_by monitor sizes) = ap (λ (xs : List Wanted). length xs) is in
     absurd (omega (arith, few, same))
 
 pub reverse-one : {X : Type 0} (xs : List X) → length xs ≤ 1 → reverse xs ≡ xs

@@ -1,5 +1,5 @@
 -- What the monitor of a port is offered of an entry's frames: all of them, if there are some.
-use Rattle.std.specs.Prelude.{ℕ, ◌≡◌, ◌≤◌, ◌==◌, if◌then◌else◌, List, [], ◌∷◌, length, map, Option, Some, None}
+use Rattle.std.specs.Prelude.{ℕ, ◌≡◌, ◌≤◌, List, [], length, map, Option}
 use Rattle.std.specs.List.{AllByRecursion}
 use Rattle.nm_types.specs.declared.id.PortId.{PortId}
 use Rattle.nm_types.specs.declared.id.SessionId.{SessionId}
@@ -8,12 +8,11 @@ use Rattle.vale_entry.specs.Legal.{room_of_dests}
 use Rattle.vale_parts.specs.Batches.{dests_wanted}
 use Rattle.vale_steps.specs.declared.monitored.Monitored.TheInside.{Inside}
 use Rattle.vale_steps.specs.Offering.{OffersState, HasFewFrames, slots_in}
-use Rattle.vale_steps.specs.Wanting.{want_all}
+use Rattle.vale_steps.specs.Wanting.{wants_with}
 
--- what a monitor, if there is one, wants of so many frames
-abbrev pub wants_by : Option PortId → ℕ → List Wanted
-wants_by None count = []
-wants_by (Some to) count = if count == 0 then [] else want_all to count ∷ []
+-- what a monitor, if there is one, wants of frames of these sizes
+abbrev pub wants_by : Option PortId → List ℕ → List Wanted
+wants_by monitor sizes = wants_with monitor sizes []
 
 -- what an entry whose frames are wanted so promises
 abbrev pub room_of_wants : List Wanted → ℕ

@@ -1,7 +1,7 @@
 -- What an opening makes of the parts of a book.
 use Rattle.std.specs.Prelude.{ℕ, Bool, true, false, ◌≡◌, ◌≤◌, ◌+◌, not, List, [], ◌∷◌, ◌++◌, length, take, drop, map, Option, Result, OnOk, OnErr, IfOk}
 use Rattle.std.specs.List.{list_any}
-use Rattle.nm_types.specs.Limits.{most_switches}
+use Rattle.nm_types.specs.Limits.{most_switches, most_ring}
 use Rattle.nm_types.specs.Names.{switch_of, is_switch_port_name}
 use Rattle.nm_types.specs.declared.fault.OpenFault.{OpenFault}
 use Rattle.nm_types.specs.Openings.{is_on_switch, finds_switches_full, open_refusal as names_refusal}
@@ -80,7 +80,7 @@ pub record IsOpened (opening : Opening) (rx : ℕ) (free : List Buffer) (opened 
 pub record CanSeat (opening : Opening) (rx : ℕ) (pool : PoolState) : Type 0 where
   pub back : (count : ℕ) → IsTakenBack pool count
   pub enough : opening.tx + rx + opening.extra ≤ length pool.free
-  pub ring : (1 ≤ rx) × (rx ≤ 1024)
+  pub ring : (1 ≤ rx) × (rx ≤ most_ring)
 
 -- the port stands behind the others with its part of the free buffers, or nothing has changed
 pub record IsSeated {E : Type 0} (opening : Opening) (rx : ℕ) (ports new_ports : List PortState) (pool new_pool : PoolState) (result : Result Opened E) : Type 0 where

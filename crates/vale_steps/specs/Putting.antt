@@ -1,6 +1,6 @@
 -- A put of a pipe end: its other end takes frames with their buffers, as many as it has space for, and
 -- gives as many idle buffers back.
-use Rattle.std.specs.Prelude.{ℕ, false, ◌≡◌, List, [], map, take, IsSome, Option, Some, None}
+use Rattle.std.specs.Prelude.{ℕ, false, ◌≡◌, List, [], map, take, replicate, IsSome, Option, Some, None}
 use Rattle.nm_types.specs.declared.id.Counts.{Counts}
 use Rattle.nm_types.specs.declared.id.PortId.{PortId}
 use Rattle.nm_types.specs.declared.id.SessionId.{SessionId}
@@ -30,8 +30,9 @@ item_of got = record { index = got.buf.index; bytes = record { bytes = part_in g
 abbrev pub items_of : List Got → List Item
 items_of gots = map item_of gots
 
+-- each frame of a pipe takes one slot
 abbrev pub wants_put : Putting → List Wanted
-wants_put putting = wants_by putting.monitor putting.took
+wants_put putting = wants_by putting.monitor (replicate putting.took 1)
 
 abbrev pub put_entry : Putting → List Item → Entry
 put_entry putting items = record {

@@ -17,14 +17,15 @@ abbrev pub read_ask : Bool → PortId → List ℕ → Ask
 read_ask true at back = Get at back
 read_ask false at back = Sync at back
 
-abbrev pub wants_read : Reading → List Wanted
-wants_read reading = wants_by reading.monitor reading.count
+-- the monitor wants all frames that are ready, of these sizes
+abbrev pub wants_read : Reading → List ℕ → List Wanted
+wants_read reading sizes = wants_by reading.monitor sizes
 
-abbrev pub read_entry : Reading → List ℕ → Entry
-read_entry reading back = record {
+abbrev pub read_entry : Reading → List ℕ → List ℕ → Entry
+read_entry reading sizes back = record {
   session = reading.session;
   ask = read_ask reading.is_pipe reading.at back;
-  reply = Gave reading.count (dests_wanted (wants_read reading));
+  reply = Gave reading.frames (dests_wanted (wants_read reading sizes));
 }
 
 abbrev pub count_read : ℕ → Counts

@@ -30,8 +30,8 @@ pub use Rattle.vale_port.specs.Laws.{line_after_put, with_line}
 pub use Rattle.vale_port.specs.Lists.{ChangesSeat, ChangesSeatIf, OfSeat, OfState}
 pub use Rattle.vale_port.specs.Ports.{Gives, IsFilledFor, IsLeaseFor, open_ids, opened_state, sizes_of}
 pub use Rattle.vale_port.specs.Seat.{given_frames, seat_done, seat_given, seat_put, seat_synced}
-pub use Rattle.vale_port.specs.Words.{Frame, IsFrameSize, IsSingle, Offer, buffer_count, buffers_of}
-pub use Rattle.vale_port.specs.Words.{delivered_frames, frames_in, given_by_sync, granted_sizes}
-pub use Rattle.vale_port.specs.Words.{indices_of, is_there, leased, leases_of, list_any, out_of}
-pub use Rattle.vale_port.specs.Words.{ready_gots, room_to_sync, size_of_frames, space_of, switch_of}
-pub use Rattle.vale_port.specs.Words.{taken_count, with_lease}
+pub use Rattle.vale_port.specs.Words.{FitsPart, Frame, IsFrameSize, IsSingle, Offer, buffer_count}
+pub use Rattle.vale_port.specs.Words.{buffers_of, delivered_frames, frames_in, given_by_sync}
+pub use Rattle.vale_port.specs.Words.{granted_sizes, indices_of, is_there, leased, leases_of}
+pub use Rattle.vale_port.specs.Words.{list_any, out_of, ready_gots, room_to_sync, size_of_frames}
+pub use Rattle.vale_port.specs.Words.{space_of, switch_of, taken_count, with_lease}

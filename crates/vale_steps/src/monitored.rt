@@ -1,7 +1,7 @@
 ghost use Rattle.std.specs.Prelude.{◌≡◌, All, length, map, IfOk};
 ghost use Rattle.vale_steps.specs.Words.{dests_wanted, wanted};
 ghost use Rattle.vale_steps.specs.Monitored.{wants_by, offers_to};
-ghost use Rattle.vale_steps.specs.Wanting.{IsSmallWant};
+ghost use Rattle.vale_steps.specs.Wanting.{AreSmall, IsSmallWant};
 
 use crate::offers::{Offers, rooms_of};
 use crate::wanting::{add_monitor, dests_of};
@@ -34,26 +34,28 @@ impl Model for Monitored {
 }
 
 /// The want of a monitor, if there is one and some frames are there.
-fn wants_by(alloc: Global, monitor: Option<PortId>, count: u32) -> Result<Vec<Want>, NoMemory>
-    ensures wants { IfOk result (λ wants. map wanted wants.items ≡ wants_by monitor count) }
+fn wants_by(alloc: Global, monitor: Option<PortId>, sizes: Vec<u32>) -> Result<Vec<Want>, NoMemory>
+    requires { AreSmall sizes.items }
+    ensures wants { IfOk result (λ wants. map wanted wants.items ≡ wants_by monitor sizes.items) }
     ensures small { IfOk result (λ wants. All IsSmallWant wants.items) }
 {
     let mut wants = Vec::new(alloc);
-    add_monitor(alloc, &mut wants, monitor, count)?;
+    add_monitor(alloc, &mut wants, monitor, sizes)?;
     Ok(wants)
 }
 
 impl Monitored {
-    /// What a port's monitor, if it has one, is offered of so many frames.
+    /// What a port's monitor, if it has one, is offered of frames of these sizes.
     #[tactic(auto, using(crate::proofs::MonitoredWants::monitor_wants))]
     pub(crate) fn new(
         alloc: Global,
         monitor: Option<PortId>,
-        count: u32,
+        sizes: Vec<u32>,
     ) -> Result<Monitored, NoMemory>
-        ensures { IfOk result (λ monitored. monitored ≡ wants_by monitor count) }
+        requires { AreSmall sizes.items }
+        ensures { IfOk result (λ monitored. monitored ≡ wants_by monitor sizes.items) }
     {
-        let wants = wants_by(alloc, monitor, count)?;
+        let wants = wants_by(alloc, monitor, sizes)?;
         let rooms = rooms_of(alloc, &wants)?;
         let to = dests_of(alloc, &wants)?;
         Ok(Monitored { wants, rooms, to })

@@ -1,6 +1,7 @@
 ghost use Rattle.std.specs.Prelude.{ℕ, ◌≡◌, ◌+◌, ◌≤◌, true, false, [], ◌∷◌, ◌++◌, length, take};
 ghost use Rattle.std.specs.Prelude.{drop, map, position, None, Some, OnOk, OnErr, IfOk, IfErr};
 ghost use Rattle.std.specs.Prelude.{MatchResult};
+ghost use Rattle.nm_types.specs.Limits.{most_ring};
 ghost use Rattle.vale_steps.specs.Words.{CanAllBeGiven, Fits, IsFull, IsNames, IsTakenBack, Joins};
 ghost use Rattle.vale_steps.specs.Words.{fresh_port, has_table, indices_of, is_switch_port_name};
 ghost use Rattle.vale_steps.specs.Words.{list_any, opened_state, pool_less, pool_with_all};
@@ -183,7 +184,7 @@ fn take_all(alloc: Global, pool: &mut Pool, opening: &Opening, rx: u32) -> Resul
 
 /// Makes the port of an opening, or gives its buffers back.
 fn make_port(alloc: Global, opening: Opening, taken: Taken) -> Result<(Port, Opened), Taken>
-    requires size { (1 ≤ length taken.rx.items) × (length taken.rx.items ≤ 1024) }
+    requires size { (1 ≤ length taken.rx.items) × (length taken.rx.items ≤ most_ring) }
     ensures port { IfOk result (λ made. made.0 ≡ opened_state opening.id.0 opening.session.0
         opening.name opening.tx opening.extra taken.rx.items) }
     ensures id { IfOk result (λ made. made.1.port ≡ opening.id) }
@@ -289,7 +290,7 @@ pub fn add_port(
 ) -> Result<Opened, StepFault>
     requires back { (count : ℕ) → IsTakenBack pool.old count }
     requires enough { opening.tx + rx + opening.extra ≤ length pool.old.free }
-    requires ring { (1 ≤ rx) × (rx ≤ 1024) }
+    requires ring { (1 ≤ rx) × (rx ≤ most_ring) }
     ensures entries { OnOk result (history.new.entries
         ≡ history.old.entries ++ entry_for opening rx replies.Opened ∷ []) }
     ensures promised { OnOk result (history.new.promised ≡ history.old.promised + 2) }
@@ -357,7 +358,7 @@ pub fn name_port(
     ensures joins { OnOk result
         (Joins names.old (fresh_port opening.now.name opening.now.id) names.new) }
     ensures names { OnOk result (IsNames names.new) }
-    ensures ring { OnOk result ((1 ≤ rx) × (rx ≤ 1024)) }
+    ensures ring { OnOk result ((1 ≤ rx) × (rx ≤ most_ring)) }
     ensures enough { OnOk result (opening.now.tx + rx + opening.now.extra ≤ length pool.now.free) }
     ensures err { OnErr result (names.new ≡ names.old) }
 {

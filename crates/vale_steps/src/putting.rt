@@ -1,7 +1,9 @@
 ghost use Rattle.std.specs.Prelude.{ℕ, List, ◌≡◌, ◌≤◌, ◌<◌, ◌+◌, ◌-◌, ◌*◌, [], ◌∷◌, ◌++◌, true};
-ghost use Rattle.std.specs.Prelude.{false, All, length, min, take, drop, slice_set, vec_capacity};
+ghost use Rattle.std.specs.Prelude.{false, All, length, min, take, drop, replicate, slice_set};
 ghost use Rattle.std.specs.Prelude.{Some, None, IsSome, OnOk, OnErr, IfOk, IfErr, IfSome};
-ghost use Rattle.vale_steps.specs.Words.{ChangesSeat, Fits, ForSome, Frame as Packet, IsFull};
+ghost use Rattle.std.specs.Prelude.{vec_capacity};
+ghost use Rattle.vale_steps.specs.Words.{ChangesSeat, Fits, FitsPart, ForSome, Frame as Packet};
+ghost use Rattle.vale_steps.specs.Words.{IsFull};
 ghost use Rattle.vale_steps.specs.Words.{IsNames, IsSingle, OfSeat, OfState, SumFits, buffers_of};
 ghost use Rattle.vale_steps.specs.Words.{bytes_of, bytes_of_frames, counts_of, frame_bytes};
 ghost use Rattle.vale_steps.specs.Words.{frames_in, frames_of_items, indices_of, is_pipe_name};
@@ -13,14 +15,14 @@ ghost use Rattle.vale_entry.specs.declared.entry.Reply.TheVariants as replies;
 ghost use Rattle.vale_steps.specs.Putting.{CanCount, IsTaking, item_of, items_of, put_entry};
 ghost use Rattle.vale_steps.specs.Putting.{gone_entry, count_sent, count_given, copied};
 ghost use Rattle.vale_steps.specs.Putting.{IfPut, IsPutBy, wants_put};
-ghost use Rattle.vale_steps.specs.Monitored.{room_of_wants};
+ghost use Rattle.vale_steps.specs.Monitored.{room_of_wants, wants_by};
 
 use crate::monitored::Monitored;
 use crate::offers::Offers;
 use nm_count::Tally;
 use nm_region::Buf;
 use nm_types::{Batch, Counts, Frame, LeaseId, NoMemory, PortId, SessionId, StepFault};
-use std::alloc::Global;
+use std::alloc::{AllocError, Global};
 use vale_entry::{Ask, Dests, Entry, History, Item, Items, Reply};
 use vale_line::Got;
 use vale_names::Names;
@@ -111,6 +113,25 @@ fn copies_of(alloc: Global, monitor: Option<PortId>, items: &Items) -> Result<Ba
     }
 }
 
+fn ones(alloc: Global, count: u32) -> Result<Vec<u32>, AllocError>
+    ensures { IfOk result (λ all. all.items ≡ replicate count 1) }
+{
+    let mut all = Vec::new(alloc);
+    all.resize(count as usize, 1)?;
+    Ok(all)
+}
+
+/// What a monitor, if there is one, is offered of so many frames, each of which takes one slot.
+fn monitored_of(alloc: Global, monitor: Option<PortId>, count: u32) -> Result<Monitored, NoMemory>
+    requires { count ≤ most_batch }
+    ensures { IfOk result (λ monitored. monitored ≡ wants_by monitor (replicate count 1)) }
+{
+    match monitor {
+        Some(_) => Monitored::new(alloc, monitor, ones(alloc, count)?),
+        None => Monitored::new(alloc, None, Vec::new(alloc)),
+    }
+}
+
 /// Makes what a put gives, with memory for all of it.
 fn taking_of(alloc: Global, putting: Putting, pending: &[Got]) -> Result<Taking, NoMemory>
     requires few { putting.took ≤ most_batch }
@@ -121,7 +142,7 @@ fn taking_of(alloc: Global, putting: Putting, pending: &[Got]) -> Result<Taking,
 {
     let items = items_of(alloc, &pending[..putting.took as usize])?;
     let copies = copies_of(alloc, putting.monitor, &items)?;
-    let monitored = Monitored::new(alloc, putting.monitor, putting.took)?;
+    let monitored = monitored_of(alloc, putting.monitor, putting.took)?;
     let room = PutRoom::new(alloc, putting.took)?;
     Ok(Taking {
         room,
@@ -211,6 +232,7 @@ fn take_at(
     requires new { OfState (λ p. is_there id.0 (leases_of p.line.lots) ≡ false)
         ports.old.items putting.place }
     requires single { All IsSingle pending.old.items }
+    requires fits { All FitsPart pending.old.items }
     requires took { OfState (λ p. putting.took
         ≡ min (length pending.old.items) (line_space p.line)) ports.old.items putting.place }
     requires room { putting.took ≤ room }
@@ -245,6 +267,7 @@ pub fn put_to_peer(
     requires new { OfState (λ p. is_there (length history.old.entries + 1)
         (leases_of p.line.lots) ≡ false) ports.old.items putting.place }
     requires single { All IsSingle pending.old.items }
+    requires fits { All FitsPart pending.old.items }
     requires few { putting.took ≤ most_batch }
     requires within { putting.took ≤ length pending.old.items }
     requires took { OfState (λ p. putting.took

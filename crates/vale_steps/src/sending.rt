@@ -1,4 +1,5 @@
 ghost use Rattle.std.specs.Prelude.{◌≡◌, ◌<◌, ◌≤◌, ◌^◌, ◌+◌, ◌-◌, [], ◌∷◌, ◌++◌, true, All, IsSome, length, map, count_by, OnOk, OnErr, IfOk, IfErr};
+ghost use Rattle.nm_types.specs.Limits.{most_batch};
 ghost use Rattle.vale_steps.specs.Words.{Fits, FitsIn, IsFrame, IsFull, IsRising, bytes_of_frames};
 ghost use Rattle.vale_steps.specs.Words.{counts_of, is_lone, is_sendable, is_short};
 ghost use Rattle.vale_steps.specs.Words.{is_short_destination, learned_of_batch, looked_up_batch};
@@ -87,7 +88,7 @@ fn record(
         monitor,
     } = sender;
     let Classes { short, lone, wants } = classes;
-    let wants = with_monitor(alloc, wants, monitor, batch.len() as u32)?;
+    let wants = with_monitor(alloc, wants, monitor, batch)?;
     let to = dests_of(alloc, &wants)?;
     let wants = reversed(wants);
     let rooms = rooms_of(alloc, &wants)?;
@@ -159,7 +160,7 @@ fn classify_among(
     from: PortId,
     batch: &Batch,
 ) -> Result<(Classes, Lookup), NoMemory>
-    requires few { length batch.now ≤ 1023 }
+    requires few { length batch.now ≤ most_batch }
     requires frames { All IsFrame batch.now }
     requires ports { IsRising (map port_number (open_ids (switch_of name.now) ports.now)) }
     ensures table { OnOk result (table.new ≡ learned_of_batch from table.old batch.now) }

@@ -1,10 +1,11 @@
-ghost use Rattle.std.specs.Prelude.{◌≡◌, List, All, length, map, option_map, position, replicate};
+ghost use Rattle.std.specs.Prelude.{◌≡◌, ◌<◌, ◌^◌, true, All, length, map, option_map, position};
 ghost use Rattle.std.specs.Prelude.{reverse, IfOk, OnOk};
-ghost use Rattle.vale_steps.specs.Words.{Frame, dests_wanted, port_number, range_with_len, wanted};
-ghost use Rattle.vale_steps.specs.Words.{wants_monitored, with_want};
-ghost use Rattle.vale_steps.specs.Wanting.{IsSmall, IsSmallWant, want_all, dest_in, is_behind};
+ghost use Rattle.vale_steps.specs.Words.{dests_wanted, is_sendable, port_number, range_with_len};
+ghost use Rattle.vale_steps.specs.Words.{sizes_of, wanted, wants_monitored, with_want};
+ghost use Rattle.vale_steps.specs.Wanting.{IsSmall, IsSmallWant, dest_in, is_behind};
+ghost use Rattle.vale_steps.specs.Wanting.{sizes_for, want_all, wants_with};
 
-use nm_types::{NoMemory, PortId};
+use nm_types::{Batch, NoMemory, PortId, slots};
 use std::alloc::{AllocError, Global};
 use vale_batch::{Lists, Want};
 use vale_entry::Dest;
@@ -15,22 +16,39 @@ fn places(alloc: Global, count: u32) -> Result<Vec<u32>, AllocError>
     (0..count).collect(alloc)
 }
 
-fn ones(alloc: Global, count: u32) -> Result<Vec<u32>, AllocError>
-    ensures { IfOk result (λ all. all.items ≡ replicate count 1) }
+/// The slots of each frame of a batch.
+#[tactic(auto, using(crate::proofs::SmallWants::batch_sizes))]
+fn sizes_of(alloc: Global, batch: &Batch) -> Result<Vec<u32>, AllocError>
+    requires { is_sendable batch.now ≡ true }
+    ensures { IfOk result (λ sizes. sizes.items ≡ sizes_of batch.now) }
 {
-    let mut all = Vec::new(alloc);
-    all.resize(count as usize, 1)?;
-    Ok(all)
+    let mut sizes = Vec::with_capacity(alloc, batch.len())?;
+    for i in 0..batch.len() {
+        sizes.push_reserved(slots(batch.frame(i).len()));
+    }
+    Ok(sizes)
 }
 
-/// What a port wants that gets all of so many frames, each of which takes one slot.
-fn want_all(alloc: Global, to: PortId, count: u32) -> Result<Want, AllocError>
-    ensures { IfOk result (λ want. wanted want ≡ want_all to count) }
+/// The slots of each frame of a batch, if there is a monitor.
+fn sizes_for(alloc: Global, monitor: Option<PortId>, batch: &Batch) -> Result<Vec<u32>, AllocError>
+    requires { is_sendable batch.now ≡ true }
+    ensures { IfOk result (λ sizes. sizes.items ≡ sizes_for monitor batch.now) }
+{
+    match monitor {
+        Some(_) => sizes_of(alloc, batch),
+        None => Ok(Vec::new(alloc)),
+    }
+}
+
+/// What a port wants that gets all frames of these sizes.
+fn want_all(alloc: Global, to: PortId, sizes: Vec<u32>) -> Result<Want, AllocError>
+    requires { length sizes.items < 2 ^ 32 }
+    ensures { IfOk result (λ want. wanted want ≡ want_all to sizes.items) }
 {
     Ok(Want {
         to,
-        places: places(alloc, count)?,
-        sizes: ones(alloc, count)?,
+        places: places(alloc, sizes.len() as u32)?,
+        sizes,
     })
 }
 
@@ -53,21 +71,21 @@ fn add(wants: &mut Vec<Want>, want: Want) -> Result<(), NoMemory>
     Ok(())
 }
 
-/// Adds what the monitor wants, if there is one: all of so many frames, each of which takes one
-/// slot. Of no frames it wants nothing.
+/// Adds what the monitor wants, if there is one: all frames of these sizes. Of no frames it wants
+/// nothing.
 pub(crate) fn add_monitor(
     alloc: Global,
     wants: &mut Vec<Want>,
     monitor: Option<PortId>,
-    count: u32,
+    sizes: Vec<u32>,
 ) -> Result<(), NoMemory>
-    ensures { OnOk result ((frames : List Frame) → length frames ≡ count
-        → map wanted wants.new.items ≡ wants_monitored (option_map port_number monitor) frames
-        (map wanted wants.old.items)) }
+    requires { length sizes.items < 2 ^ 32 }
+    ensures { OnOk result (map wanted wants.new.items
+        ≡ wants_with monitor sizes.items (map wanted wants.old.items)) }
 {
     if let Some(monitor) = monitor {
-        if count > 0 {
-            add(wants, want_all(alloc, monitor, count)?)?;
+        if !sizes.is_empty() {
+            add(wants, want_all(alloc, monitor, sizes)?)?;
         }
     }
     Ok(())
@@ -85,21 +103,22 @@ pub(crate) fn listed(alloc: Global, lists: &Lists) -> Result<Vec<Want>, NoMemory
     Ok(all)
 }
 
-/// What the ports want of a batch of so many frames, with its monitor's want at its place.
+/// What the ports want of a batch, with its monitor's want at its place.
 pub(crate) fn with_monitor(
     alloc: Global,
     wants: Vec<Want>,
     monitor: Option<PortId>,
-    count: u32,
+    batch: &Batch,
 ) -> Result<Vec<Want>, NoMemory>
-    requires { All IsSmall (map wanted wants.items) }
-    ensures wants { IfOk result (λ all. (frames : List Frame) → length frames ≡ count
-        → map wanted all.items ≡ wants_monitored (option_map port_number monitor) frames
-        (map wanted wants.items)) }
+    requires sendable { is_sendable batch.now ≡ true }
+    requires small { All IsSmall (map wanted wants.items) }
+    ensures wants { IfOk result (λ all. map wanted all.items
+        ≡ wants_monitored (option_map port_number monitor) batch.now (map wanted wants.items)) }
     ensures small { IfOk result (λ all. All IsSmallWant all.items) }
 {
     let mut wants = wants;
-    add_monitor(alloc, &mut wants, monitor, count)?;
+    let sizes = sizes_for(alloc, monitor, batch)?;
+    add_monitor(alloc, &mut wants, monitor, sizes)?;
     Ok(wants)
 }
 

@@ -6,6 +6,7 @@ mod Strips
 mod Lines
 mod NameWords
 mod GivingBack
+mod Hundreds
 mod LineReads
 mod Reading
 mod Runs

@@ -20,7 +20,7 @@ use Rattle.vale_fields.proofs.Numerals.{short-back, short-fits}
 use Rattle.vale_fields.proofs.Sizes.{what-fits}
 use Rattle.vale_fields.proofs.Splits.{unequal, split-front, split-last, IsFree, mark-found, take-front, drop-front}
 use Rattle.vale_fields.proofs.Texts.{IsDigit, decimal-word}
-use Rattle.vale_text.specs.Lines.{is_line_feed, IsLine, front_of, back_of, version_in, pool_in, most_pool_of, is_version, is_pool, is_start, free_in, is_end, kept_if, entry_in}
+use Rattle.vale_text.specs.Lines.{is_line_feed, IsLine, front_of, back_of, version_in, pool_in, first_most_pool, most_pool_of, is_version, is_pool, is_start, free_in, is_end, kept_if, entry_in}
 use Rattle.vale_text.specs.Reading.{IsHead}
 use Rattle.vale_text.proofs.Lines.{entry_words, said-words, are-words, Says, says}
 use Rattle.vale_text.proofs.Wider.{entry-wider}
@@ -155,7 +155,7 @@ at-most a b h = grind (arith, nat_tests, h)
 pub pool-small : (v p : ℕ) → p ≤ most_pool_of v → Is32 p
 pool-small v p most = by_version (v == 1) most
   where
-    by_version : (b : Bool) → p ≤ (if b then 65536 else most_pool) → Is32 p
+    by_version : (b : Bool) → p ≤ (if b then first_most_pool else most_pool) → Is32 p
     by_version true most = omega (arith, most)
     by_version false most = omega (arith, most)
 

@@ -74,18 +74,6 @@ pub placed-pair : {a b c : List ℕ} {at end : ℕ} (n : ℕ) → 100 ≤ n → 
 placed-pair {a} {b} {c} {at} {end} n lo hi p q =
     subst (λ (t : List ℕ). Placed a c at t (end + 2)) (sym (decimal_pair n lo hi)) (placed-then p q)
 
--- the hundreds, and what is left behind them
-pub placed-hundreds : {a b c : List ℕ} {at : ℕ} (high low : ℕ) → 10 ≤ high → high < 100 → low < 100 → Placed a b at (two_digits high) (at + 2)
-    → Placed b c (at + 2) (two_digits low) (at + 2 + 2) → Placed a c at (decimal (high * 100 + low)) (at + 4)
-placed-hundreds {a} {b} {c} {at} high low some few small p q =
-    let n : ℕ = high * 100 + low in
-    let top : high ≡ n / 100 = omega (arith, small) in
-    let rest : low ≡ n % 100 = omega (arith, small) in
-    let front : Placed a b at (decimal high) (at + 2) = subst (λ (t : List ℕ). Placed a b at t (at + 2)) (sym (decimal_two high some few)) p in
-    let end : at + 2 + 2 ≡ at + 4 = omega arith in
-    subst (λ (e : ℕ). Placed a c at (decimal n) e) end
-    (placed-pair n (omega (arith, some)) (omega (arith, few, small)) (subst (λ (m : ℕ). Placed a b at (decimal m) (at + 2)) top front) (subst (λ (m : ℕ). Placed b c (at + 2) (two_digits m) (at + 2 + 2)) rest q))
-
 -- the last four digits behind those before
 pub placed-four : {a b c d : List ℕ} {at end : ℕ} (n : ℕ) → 10000 ≤ n → n < 2 ^ 64 → Placed a b at (decimal (n / 10000)) end
     → Placed b c end (two_digits (n % 10000 / 100)) (end + 2) → Placed c d (end + 2) (two_digits (n % 10000 % 100)) (end + 2 + 2) → Placed a d at (decimal n) (end + 2 + 2)

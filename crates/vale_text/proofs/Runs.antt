@@ -1,6 +1,6 @@
 -- The numbers at the front of a list that follow one another are its first span.
 use Rattle.std.specs.List.{range_with_len}
-use Rattle.std.proofs.Common.{ℕ, zero, suc, ◌+◌, ◌-◌, ◌<◌, ◌≤◌, ◌≡◌, ◌==◌, Bool, false, if◌then◌else◌, List, [], ◌∷◌, ◌++◌, length, map, take, drop, get_or, refl, sym, ap, ◌∙◌, arith, take-append-drop}
+use Rattle.std.proofs.Common.{ℕ, zero, suc, ◌+◌, ◌-◌, ◌<◌, ◌≡◌, ◌==◌, Bool, false, if◌then◌else◌, List, [], ◌∷◌, ◌++◌, length, map, take, drop, get_or, refl, sym, ap, ◌∙◌, arith, take-append-drop, subst, length-drop, get_or-drop}
 use Rattle.std.proofs.lemmas.Bool.{eqb-true, false_from_ne_true}
 use Rattle.std.proofs.lemmas.List.{take_more}
 use Rattle.std.proofs.lemmas.List.FromFn.{get_or-range_with_len}
@@ -54,3 +54,13 @@ alone-first n ns alone =
       run = refl;
       stops = λ next rest is same. alone (ap (λ (t : List ℕ). get_or t 0 0) is ∙ same);
     }
+
+-- the same from the k-th number on
+pub run-on : (ns : List ℕ) (k first end : ℕ) → end < length ns → k < end → get_or ns end 0 ≡ first + (end - k) → take (end - k) (drop k ns) ≡ range_with_len first (end - k)
+    → take (end + 1 - k) (drop k ns) ≡ range_with_len first (end + 1 - k)
+run-on ns k first end inside after is run =
+    let count : end - k + 1 ≡ end + 1 - k = omega (arith, after) in
+    let there : k + (end - k) ≡ end = omega (arith, after) in
+    subst (λ (n : ℕ). take n (drop k ns) ≡ range_with_len first n) count
+    (run-more (drop k ns) first (end - k) 0 (omega (arith, length-drop k ns, inside, after))
+    (get_or-drop k ns (end - k) 0 ∙ (ap (λ (j : ℕ). get_or ns j 0) there ∙ is)) run)

@@ -1,20 +1,20 @@
 -- Writing the spans of numbers, one after another.
-use Rattle.std.proofs.Common.{◌≡◌, ◌≤◌, ◌<◌, ◌+◌, ◌==◌, ℕ, zero, suc, Bool, true, false, if◌then◌else◌, List, [], ◌∷◌, ◌++◌, length, map, take, drop, get_or, decimal, codes, Option, Result, refl, sym, ap, subst, ◌∙◌, arith, append_assoc, length-drop}
+use Rattle.std.proofs.Common.{◌≡◌, ◌≤◌, ◌<◌, ◌+◌, ◌-◌, ◌==◌, ℕ, suc, Bool, if◌then◌else◌, List, [], ◌∷◌, ◌++◌, length, map, drop, get_or, decimal, codes, Option, Result, refl, sym, ap, subst, ◌∙◌, arith, append_assoc, length-drop, drop-cons, get_or-drop, false, drop-drop}
 use Rattle.std.specs.List.{flat_map}
 use Rattle.std.proofs.lemmas.List.{append-nil}
 use Rattle.std.proofs.lemmas.Grind.{flat_map-append}
-use Rattle.std.proofs.lemmas.Bool.{eq-eqb}
+use Rattle.std.proofs.lemmas.Bool.{eq-eqb, eqb-true, false_from_ne_true}
 use Rattle.nm_io.specs.Held.{GrowsByPrefix}
 use Rattle.nm_io.specs.Gathered.{Gathered, Gathers}
 use Rattle.nm_io.proofs.Gathering.{gathered_more, gathered_fails, grows_past}
 use Rattle.vale_entry.specs.declared.entry.Span.{Span}
-use Rattle.vale_entry.specs.Spans.{single_span, spans_of, spans_in}
+use Rattle.vale_entry.specs.Spans.{single_span, spans_in}
 use Rattle.vale_entry.specs.Transcript.{span_text, buffers_text, list_text}
 use Rattle.vale_text.specs.Pieces.{behind}
-use Rattle.vale_text.specs.Spans.{AreAlone, ArePlaced, AreAdded}
+use Rattle.vale_text.specs.Spans.{IsRun, ArePlaced, AreAdded}
 use Rattle.vale_text.specs.Placed.{Placed}
 use Rattle.vale_text.proofs.Places.{placed-then}
-use Rattle.vale_text.proofs.Runs.{alone-first}
+use Rattle.vale_text.proofs.Runs.{alone-first, first-of-run}
 use Rattle.vale_text.proofs.Strips.{adds, gathers_after, list_text-is}
 
 -- some spans, each behind a comma, are on their way, and those of the rest are not yet
@@ -100,35 +100,32 @@ first-placed a b at end numbers rest span p next fewer = record {
   fewer = omega (arith, fewer);
 }
 
--- lone numbers are spans by themselves
-lone-spans : (few : ℕ) (ns : List ℕ) → few < length ns → ((k : ℕ) → k < few → get_or ns (k + 1) 0 ≡ get_or ns k 0 + 1 → ⊥)
-    → spans_in 2 ns ≡ map single_span (take few ns) ++ spans_in 2 (drop few ns)
-lone-spans zero ns within alone = refl
-lone-spans (suc few) [] within alone = absurd (omega (arith, within))
-lone-spans (suc few) (n ∷ ns) within alone =
-    alone-first n ns (λ is. alone 0 (omega arith) is)
-    ∙ ap (λ (t : List Span). single_span n ∷ t) (lone-spans few ns (omega (arith, within)) (λ k low is. alone (suc k) (omega (arith, low)) (later k is)))
-  where
-    later : (k : ℕ) → get_or ns (k + 1) 0 ≡ get_or ns k 0 + 1 → get_or (n ∷ ns) (suc k + 1) 0 ≡ get_or ns k 0 + 1
-    later k is =
-        let next : suc k + 1 ≡ suc (k + 1) = omega arith in
-        ap (λ (j : ℕ). get_or (n ∷ ns) j 0) next ∙ is
-
-lone-text : (ns : List ℕ) → flat_map (behind 44 decimal) ns ≡ flat_map (behind 44 span_text) (map single_span ns)
-lone-text [] = refl
-lone-text (n ∷ ns) =
+-- a number that has not its neighbour behind it
+pub alone-placed : {a b : List ℕ} {at end : ℕ} (ns : List ℕ) (k n : ℕ) → k < length ns → get_or ns k 0 ≡ n → (get_or ns (k + 1) 0 ≡ n + 1 → ⊥)
+    → Placed a b at (behind 44 decimal n) end → ArePlaced a b at end (drop k ns) (drop (k + 1) ns)
+alone-placed {a} {b} {at} {end} ns k n inside is alone p =
+    let next : k + 1 ≡ suc k = omega arith in
+    let split : drop k ns ≡ n ∷ drop (k + 1) ns = drop-cons ns k 0 inside ∙ (λ i. is i ∷ drop (sym next i) ns) in
     let one : span_text (single_span n) ≡ decimal n = ap (λ (b : Bool). if b then decimal n else decimal n ++ codes "-" ++ decimal n) (eq-eqb n n refl) in
-    ap (λ (t : List ℕ). behind 44 decimal n ++ t) (lone-text ns) ∙ ap (λ (t : List ℕ). (44 ∷ t) ++ flat_map (behind 44 span_text) (map single_span ns)) (sym one)
+    let lone : get_or (drop (k + 1) ns) 0 0 ≡ n + 1 → ⊥ = λ same. alone (sym (get_or-drop (k + 1) ns 0 0 ∙ ap (λ (j : ℕ). get_or ns j 0) (omega arith)) ∙ same) in
+    subst (λ (t : List ℕ). ArePlaced a b at end t (drop (k + 1) ns)) (sym split)
+    (first-placed a b at end (n ∷ drop (k + 1) ns) (drop (k + 1) ns) (single_span n)
+    (subst (λ (t : List ℕ). Placed a b at (44 ∷ t) end) (sym one) p) (alone-first n (drop (k + 1) ns) lone) (omega arith))
 
--- the first few lone numbers
-pub lone-placed : (a b : List ℕ) (at end high : ℕ) (numbers : List ℕ) → AreAlone high numbers 4 → Placed a b at (flat_map (behind 44 decimal) (take 4 numbers)) end
-    → ArePlaced a b at end numbers (drop 4 numbers)
-lone-placed a b at end high numbers are p = record {
-  done = map single_span (take 4 numbers);
-  spans = lone-spans 4 numbers are.within are.alone;
-  placed = subst (λ (t : List ℕ). Placed a b at t end) (lone-text (take 4 numbers)) p;
-  fewer = omega (arith, length-drop 4 numbers);
-}
+-- and one that has
+pub run-placed : {a b c : List ℕ} {at mid end : ℕ} (ns : List ℕ) (k first last next : ℕ) → IsRun (drop k ns) first (next - k) → last ≡ first + (next - k - 1) → k < next → next ≤ length ns → first < last
+    → Placed a b at (behind 44 decimal first) mid → Placed b c mid (behind 45 decimal last) end → ArePlaced a c at end (drop k ns) (drop next ns)
+run-placed {a} {b} {c} {at} {mid} {end} ns k first last next run is inside within rises p q =
+    let apart : (first == last) ≡ false = false_from_ne_true (first == last) (λ e. absurd (omega (arith, eqb-true first last e, rises))) in
+    let text : behind 44 decimal first ++ behind 45 decimal last ≡ behind 44 span_text (record { first = first; last = last }) =
+    ap (λ (t : List ℕ). 44 ∷ t) (sym (append_assoc (decimal first) (codes "-") (decimal last)))
+    ∙ ap (λ (b : Bool). 44 ∷ (if b then decimal first else decimal first ++ codes "-" ++ decimal last)) (sym apart) in
+    let there : k + (next - k) ≡ next = omega (arith, inside) in
+    let rest : drop (next - k) (drop k ns) ≡ drop next ns = drop-drop (next - k) k ns ∙ ap (λ (j : ℕ). drop j ns) there in
+    first-placed a c at end (drop k ns) (drop next ns) (record { first = first; last = last })
+    (subst (λ (t : List ℕ). Placed a c at t end) text (placed-then p q))
+    (first-of-run 2 (drop k ns) first (next - k) last (λ e. absurd cc) run is ∙ ap (λ (t : List ℕ). record { first = first; last = last } ∷ spans_in 2 t) rest)
+    (omega (arith, length-drop k ns, length-drop next ns, inside, within))
 
 -- and those of the rest
 pub both-placed : (a b c : List ℕ) (at here end : ℕ) (numbers rest others : List ℕ) → ArePlaced a b at here numbers rest

@@ -1,5 +1,5 @@
 -- The numbers at the front of a list that follow one another.
-use Rattle.std.specs.Prelude.{ℕ, ◌≡◌, ◌≤◌, ◌<◌, ◌+◌, ◌*◌, get_or, List, ◌∷◌, ◌++◌, length, take, drop}
+use Rattle.std.specs.Prelude.{ℕ, ◌≡◌, ◌≤◌, ◌<◌, ◌+◌, List, ◌∷◌, ◌++◌, length, take, drop}
 use Rattle.std.specs.List.{flat_map, range_with_len}
 use Rattle.vale_entry.specs.declared.entry.Span.{Span}
 use Rattle.vale_entry.specs.Spans.{spans_in}
@@ -13,12 +13,6 @@ pub record IsRun (numbers : List ℕ) (first len : ℕ) : Type 0 where
   pub within : len ≤ length numbers
   pub run : take len numbers ≡ range_with_len first len
   pub stops : (next : ℕ) (rest : List ℕ) → drop len numbers ≡ next ∷ rest → next ≡ first + len → ⊥
-
--- the first few numbers have four digits with these hundreds, and none has its neighbour behind it
-pub record AreAlone (high : ℕ) (numbers : List ℕ) (few : ℕ) : Type 0 where
-  pub within : few < length numbers
-  pub share : (k : ℕ) → k < few → (high * 100 ≤ get_or numbers k 0) × (get_or numbers k 0 < high * 100 + 100)
-  pub alone : (k : ℕ) → k < few → get_or numbers (k + 1) 0 ≡ get_or numbers k 0 + 1 → ⊥
 
 -- the first spans of numbers are at a place of a buffer, each behind a comma, and those of the rest are not
 pub record ArePlaced (old new : List ℕ) (at end : ℕ) (numbers rest : List ℕ) : Type 0 where

@@ -1,7 +1,7 @@
 //! Numbers in decimal digits. Most numbers of a transcript are below 10,000.
-ghost use Rattle.std.specs.Prelude.{◌≡◌, ◌≤◌, ◌<◌, ◌*◌, ◌/◌, ◌%◌, ◌+◌, ◌∷◌, [], length, decimal, IsTrue};
+ghost use Rattle.std.specs.Prelude.{◌≡◌, ◌≤◌, ◌<◌, ◌/◌, ◌%◌, ◌+◌, ◌∷◌, [], length, decimal, IsTrue};
 ghost use Rattle.vale_text.specs.Pieces.{behind};
-ghost use Rattle.vale_text.specs.Placed.{Placed, PlacedFew};
+ghost use Rattle.vale_text.specs.Placed.{Placed, PlacedFew, AreHundreds};
 
 use itoa::write_digits;
 use std::simd::prelude::*;
@@ -116,79 +116,90 @@ pub(crate) fn place_number(buf: &mut [u8], at: usize, number: u64) -> usize
     place_large(buf, at, number)
 }
 
-/// Writes a number of four digits by its hundreds and what is left, and returns where it ends.
-#[inline(always)]
-fn place_four(buf: &mut [u8], at: usize, high: u64, low: u64) -> usize
-    requires { (10 ≤ high) × (high < 100) × (low < 100) × (at + 4 ≤ length buf.old) }
-    ensures { PlacedFew buf.old buf.new at (decimal (high * 100 + low)) result 4 }
-{
-    place_pair(buf, at, high);
-    place_pair(buf, at + 2, low);
-    at + 4
+/// The hundreds below 100 behind a comma, four bytes each.
+static HEADS: [u8; 400] =
+    *b",00 ,01 ,02 ,03 ,04 ,05 ,06 ,07 ,08 ,09 ,10 ,11 ,12 ,13 ,14 ,15 ,16 ,17 ,18 ,19 ,20 ,21 ,22 ,23 ,24 ,25 ,26 ,27 ,28 ,29 ,30 ,31 ,32 ,33 ,34 ,35 ,36 ,37 ,38 ,39 ,40 ,41 ,42 ,43 ,44 ,45 ,46 ,47 ,48 ,49 ,50 ,51 ,52 ,53 ,54 ,55 ,56 ,57 ,58 ,59 ,60 ,61 ,62 ,63 ,64 ,65 ,66 ,67 ,68 ,69 ,70 ,71 ,72 ,73 ,74 ,75 ,76 ,77 ,78 ,79 ,80 ,81 ,82 ,83 ,84 ,85 ,86 ,87 ,88 ,89 ,90 ,91 ,92 ,93 ,94 ,95 ,96 ,97 ,98 ,99 ";
+
+/// The first two of four digits, and the least number that has them.
+#[derive(Clone, Copy)]
+pub(crate) struct Hundreds {
+    from: u64,
+    text: u8x4,
 }
 
-/// The hundreds of the least number of four digits.
-pub(crate) const LEAST_HIGH: u64 = 10;
-
-/// Writes a number, and returns where its digits end, and the hundreds of a number of four digits: its
-/// own if it has four, else the least. The bytes behind them may change.
-fn place_other(buf: &mut [u8], at: usize, number: u64) -> (usize, u64)
-    requires { at + 20 ≤ length buf.old }
-    ensures placed { Placed buf.old buf.new at (decimal number) result.0 }
-    ensures within { result.0 ≤ at + 20 }
-    ensures hundreds { (10 ≤ result.1) × (result.1 < 100) }
+/// The hundreds of a number of four digits.
+#[inline(always)]
+pub(crate) fn hundreds_of(number: u64) -> Hundreds
+    requires { (1000 ≤ number) × (number < 10000) }
+    ensures are { AreHundreds result.from result.text }
+    ensures own { (result.from ≤ number) × (number < result.from + 100) }
 {
-    if number < 1000 {
-        return (place_short(buf, at, number), LEAST_HIGH);
+    let high = number / 100;
+    Hundreds {
+        from: high * 100,
+        text: u8x4::from_slice(&HEADS[high as usize * 4..]),
     }
-    if number < 10_000 {
-        let high = number / 100;
-        return (place_four(buf, at, high, number % 100), high);
-    }
-    (place_large(buf, at, number), LEAST_HIGH)
 }
 
 /// Tells whether a number has four digits with these hundreds.
 #[inline(always)]
-pub(crate) fn shares(high: u64, number: u64) -> bool
-    requires { (10 ≤ high) × (high < 100) }
-    ensures { IsTrue result → (high * 100 ≤ number) × (number < high * 100 + 100) }
+fn shares(hundreds: Hundreds, number: u64) -> bool
+    requires { AreHundreds hundreds.from hundreds.text }
+    ensures { IsTrue result → (hundreds.from ≤ number) × (number < hundreds.from + 100) }
 {
-    number.wrapping_sub(high * 100) < 100
+    number.wrapping_sub(hundreds.from) < 100
 }
 
-/// Writes a number behind a mark by the hundreds that it shares, and returns where it ends.
+/// Writes hundreds behind a mark. The byte behind them may change.
 #[inline(always)]
-pub(crate) fn place_shared(buf: &mut [u8], at: usize, mark: u8, high: u64, number: u64) -> usize
+fn place_hundreds(buf: &mut [u8], at: usize, mark: u8, hundreds: Hundreds)
+    requires room { at + 4 ≤ length buf.old }
+    requires hundreds { AreHundreds hundreds.from hundreds.text }
+    ensures { Placed buf.old buf.new at (behind mark decimal (hundreds.from / 100)) (at + 3) }
+{
+    hundreds.text.copy_to_slice(&mut buf[at..]);
+    if mark != b',' {
+        buf[at] = mark;
+    }
+}
+
+/// Writes a number behind a mark by the hundreds that it has, and returns where it ends.
+#[inline(always)]
+fn place_shared(buf: &mut [u8], at: usize, mark: u8, hundreds: Hundreds, number: u64) -> usize
     requires room { at + 5 ≤ length buf.old }
-    requires hundreds { (10 ≤ high) × (high < 100) }
-    requires shares { (high * 100 ≤ number) × (number < high * 100 + 100) }
+    requires hundreds { AreHundreds hundreds.from hundreds.text }
+    requires shares { (hundreds.from ≤ number) × (number < hundreds.from + 100) }
     ensures placed { Placed buf.old buf.new at (behind mark decimal number) result }
     ensures within { result ≤ at + 5 }
 {
-    buf[at] = mark;
-    place_four(buf, at + 1, high, number - high * 100)
+    place_hundreds(buf, at, mark, hundreds);
+    place_pair(buf, at + 3, number - hundreds.from);
+    at + 5
 }
 
-/// Writes a number behind a mark, and returns where its digits end, and hundreds of which the next number
-/// may share the digits: `high` is what was so returned of another number.
+/// Writes a number behind a mark, and returns where its digits end, and hundreds that the next number
+/// may have: `hundreds` is what was so returned of another number. The bytes behind them may change.
 #[inline(always)]
 pub(crate) fn place_next(
     buf: &mut [u8],
     at: usize,
     mark: u8,
-    high: u64,
+    hundreds: Hundreds,
     number: u64,
-) -> (usize, u64)
+) -> (usize, Hundreds)
     requires room { at + 21 ≤ length buf.old }
-    requires hundreds { (10 ≤ high) × (high < 100) }
+    requires hundreds { AreHundreds hundreds.from hundreds.text }
     ensures placed { Placed buf.old buf.new at (behind mark decimal number) result.0 }
     ensures within { result.0 ≤ at + 21 }
-    ensures hundreds { (10 ≤ result.1) × (result.1 < 100) }
+    ensures hundreds { AreHundreds result.1.from result.1.text }
 {
-    if shares(high, number) {
-        return (place_shared(buf, at, mark, high, number), high);
-    }
-    buf[at] = mark;
-    place_other(buf, at + 1, number)
+    let own = if shares(hundreds, number) {
+        hundreds
+    } else if 1000 <= number && number < 10_000 {
+        hundreds_of(number)
+    } else {
+        buf[at] = mark;
+        return (place_number(buf, at + 1, number), hundreds);
+    };
+    (place_shared(buf, at, mark, own, number), own)
 }

@@ -1,15 +1,11 @@
 //! The spans of a list of buffers: neighbours are written by the first and the last of them.
-ghost use Rattle.std.specs.Prelude.{◌≡◌, ◌<◌, ◌≤◌, ◌+◌, ◌*◌, ◌∷◌, [], ℕ, length, get_or, decimal, IfSome, IsTrue};
-ghost use Rattle.std.specs.List.{flat_map};
+ghost use Rattle.std.specs.Prelude.{◌≡◌, ◌<◌, ◌≤◌, ◌+◌, ◌-◌, ◌*◌, ◌∷◌, [], length, drop, get_or, IfSome};
 ghost use Rattle.std.specs.Option.{IfNone};
 ghost use Rattle.vale_entry.specs.Spans.{spans_in};
-ghost use Rattle.vale_entry.specs.Transcript.{span_text};
-ghost use Rattle.vale_text.specs.Pieces.{behind};
-ghost use Rattle.vale_text.specs.Placed.{Placed};
-ghost use Rattle.vale_text.specs.Spans.{IsRun, AreAlone, ArePlaced};
+ghost use Rattle.vale_text.specs.Placed.{AreHundreds};
+ghost use Rattle.vale_text.specs.Spans.{IsRun, ArePlaced};
 
-use crate::numerals::{DIGITS, LEAST_HIGH, place_next, place_shared, shares};
-use crate::rows::NEWEST;
+use crate::numerals::{DIGITS, Hundreds, hundreds_of, place_next};
 use vale_entry::Span;
 
 /// How many numbers at the front follow one another, from the first one on.
@@ -48,90 +44,84 @@ pub(crate) fn first_span(version: u32, numbers: &[u32]) -> Option<(Span, &[u32])
     Some((Span { first, last }, &numbers[len..]))
 }
 
+/// The most bytes of a number behind a mark.
+const ITEM: usize = DIGITS + 1;
+
 /// The most bytes of a span behind a comma.
-pub(crate) const SPAN: usize = 2 * DIGITS + 2;
+pub(crate) const SPAN: usize = 2 * ITEM;
 
-/// Writes a span behind a comma, and returns where it ends, and hundreds as `place_next` does.
+/// The least number of four digits.
+const LEAST: u64 = 1000;
+
+/// Where the numbers end that follow one another from the k-th on, which is the first of at least two,
+/// and the last of them.
 #[inline(always)]
-fn place_span(buf: &mut [u8], at: usize, high: u64, span: Span) -> (usize, u64)
-    requires room { at + 42 ≤ length buf.old }
-    requires hundreds { (10 ≤ high) × (high < 100) }
-    ensures placed { Placed buf.old buf.new at (behind 44 span_text span) result.0 }
-    ensures within { result.0 ≤ at + 42 }
-    ensures hundreds { (10 ≤ result.1) × (result.1 < 100) }
+fn run_end(numbers: &[u32], k: usize, first: u64) -> (usize, u64)
+    requires inside { k + 1 < length numbers.now }
+    requires first { get_or numbers.now k 0 ≡ first }
+    requires second { get_or numbers.now (k + 1) 0 ≡ first + 1 }
+    ensures run { IsRun (drop k numbers.now) first (result.0 - k) }
+    ensures last { result.1 ≡ first + (result.0 - k - 1) }
+    ensures within { (k + 1 < result.0) × (result.0 ≤ length numbers.now) }
+    ensures later { first < result.1 }
 {
-    let (end, high) = place_next(buf, at, b',', high, span.first as u64);
-    if span.first == span.last {
-        return (end, high);
-    }
-    place_next(buf, end, b'-', high, span.last as u64)
-}
-
-/// How many lone numbers are written at once.
-const FEW: usize = 4;
-
-/// Tells whether the first four numbers have four digits with these hundreds, and none of them has its
-/// neighbour behind it.
-#[inline(always)]
-fn are_alone(numbers: &[u32], high: u64) -> bool
-    requires { (10 ≤ high) × (high < 100) }
-    ensures { IsTrue result → AreAlone high numbers.now 4 }
-{
-    if numbers.len() <= FEW {
-        return false;
-    }
-    for k in 0..FEW {
-        let number = numbers[k] as u64;
-        if !shares(high, number) || numbers[k + 1] as u64 == number + 1 {
-            return false;
+    let (mut end, mut last) = (k + 2, first + 1);
+    while end < numbers.len() {
+        if numbers[end] as u64 != last + 1 {
+            return (end, last);
         }
+        end += 1;
+        last += 1;
     }
-    true
+    (end, last)
 }
 
-/// Writes numbers that have four digits with these hundreds, each behind a comma, and returns where
-/// they end.
+/// Writes the span that begins with the k-th number behind a comma, and returns where it ends, hundreds
+/// as `place_next` does, and which number is behind it. A number that has not its neighbour behind it is
+/// written before an end is looked for.
 #[inline(always)]
-fn place_alone(buf: &mut [u8], at: usize, high: u64, numbers: &[u32]) -> usize
-    requires room { at + 5 * length numbers.now ≤ length buf.old }
-    requires hundreds { (10 ≤ high) × (high < 100) }
-    requires share { (k : ℕ) → k < length numbers.now → (high * 100 ≤ get_or numbers.now k 0) × (get_or numbers.now k 0 < high * 100 + 100) }
-    ensures placed { Placed buf.old buf.new at (flat_map (behind 44 decimal) numbers.now) result }
-    ensures within { result ≤ at + 5 * length numbers.now }
-{
-    let mut end = at;
-    for k in 0..numbers.len() {
-        end = place_shared(buf, end, b',', high, numbers[k] as u64);
-    }
-    end
-}
-
-/// Writes the first spans of numbers, each behind a comma, and returns where they end, hundreds as
-/// `place_next` does, and the numbers that are left.
-#[inline(always)]
-fn place_some<'a>(
+fn place_span(
     buf: &mut [u8],
     at: usize,
-    high: u64,
-    numbers: &'a [u32],
-) -> (usize, u64, &'a [u32])
+    hundreds: Hundreds,
+    numbers: &[u32],
+    k: usize,
+) -> (usize, Hundreds, usize)
     requires room { at + 42 ≤ length buf.old }
-    requires hundreds { (10 ≤ high) × (high < 100) }
-    requires some { 0 < length numbers.now }
-    ensures placed { ArePlaced buf.old buf.new at result.0 numbers.now result.2.now }
-    ensures within { result.0 ≤ at + 42 }
-    ensures hundreds { (10 ≤ result.1) × (result.1 < 100) }
-    ensures shorter { length result.2.now < length numbers.now }
+    requires hundreds { AreHundreds hundreds.from hundreds.text }
+    requires inside { k + 1 < length numbers.now }
+    ensures placed { ArePlaced buf.old buf.new at result.0 (drop k numbers.now) (drop result.2 numbers.now) }
+    ensures within { result.0 + 21 * k ≤ at + 21 * result.2 }
+    ensures room { result.0 ≤ at + 42 }
+    ensures hundreds { AreHundreds result.1.from result.1.text }
+    ensures further { (k < result.2) × (result.2 ≤ length numbers.now) }
 {
-    if are_alone(numbers, high) {
-        let end = place_alone(buf, at, high, &numbers[..FEW]);
-        return (end, high, &numbers[FEW..]);
+    let first = numbers[k] as u64;
+    let (end, hundreds) = place_next(buf, at, b',', hundreds, first);
+    if numbers[k + 1] as u64 != first + 1 {
+        return (end, hundreds, k + 1);
     }
-    let Some((span, rest)) = first_span(NEWEST, numbers) else {
-        return (at, high, numbers);
-    };
-    let (end, high) = place_span(buf, at, high, span);
-    (end, high, rest)
+    let (next, last) = run_end(numbers, k, first);
+    let (end, hundreds) = place_next(buf, end, b'-', hundreds, last);
+    (end, hundreds, next)
+}
+
+/// Writes the spans of at least so many numbers, each behind a comma, and returns where they end,
+/// hundreds as `place_next` does, and how many numbers they are.
+#[inline(always)]
+fn place_many(buf: &mut [u8], at: usize, numbers: &[u32], count: usize) -> (usize, Hundreds, usize)
+    requires room { at + 21 * count + 21 ≤ length buf.old }
+    requires inside { count < length numbers.now }
+    ensures placed { ArePlaced buf.old buf.new at result.0 numbers.now (drop result.2 numbers.now) }
+    ensures within { (result.0 ≤ at + 21 * result.2) × (result.0 ≤ length buf.old) }
+    ensures hundreds { AreHundreds result.1.from result.1.text }
+    ensures further { (count ≤ result.2) × (result.2 ≤ length numbers.now) }
+{
+    let (mut end, mut hundreds, mut done) = (at, hundreds_of(LEAST), 0);
+    while done < count {
+        (end, hundreds, done) = place_span(buf, end, hundreds, numbers, done);
+    }
+    (end, hundreds, done)
 }
 
 /// Writes the first spans of numbers, each behind a comma, as long as there is room, and returns
@@ -145,9 +135,12 @@ pub(crate) fn place_spans<'a>(buf: &mut [u8], at: usize, numbers: &'a [u32]) -> 
     if numbers.is_empty() {
         return (at, numbers);
     }
-    let (mut end, mut high, mut rest) = place_some(buf, at, LEAST_HIGH, numbers);
-    while !rest.is_empty() && buf.len() - end >= SPAN {
-        (end, high, rest) = place_some(buf, end, high, rest);
+    let last = numbers.len() - 1;
+    let count = last.min((buf.len() - at) / ITEM - 1);
+    let (end, hundreds, done) = place_many(buf, at, numbers, count);
+    if done != last || buf.len() - end < ITEM {
+        return (end, &numbers[done..]);
     }
-    (end, rest)
+    let (end, _) = place_next(buf, end, b',', hundreds, numbers[last] as u64);
+    (end, &numbers[numbers.len()..])
 }

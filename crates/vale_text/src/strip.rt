@@ -21,6 +21,9 @@ pub(crate) const ROOM: usize = 1536;
 /// How many bytes are spelled at once.
 const PART: usize = 256;
 
+/// Spans are written many at once as long as there is room for so many bytes.
+const MANY: usize = 10 * SPAN;
+
 /// Bytes on their way to a sink.
 #[derive(Drop)]
 pub struct Strip {
@@ -280,7 +283,7 @@ pub(crate) fn put_more_runs<K: Sink>(
 {
     let mut rest = numbers;
     while !rest.is_empty() {
-        make_room(out, strip, SPAN)?;
+        make_room(out, strip, MANY)?;
         rest = strip.spans(rest);
     }
     Ok(())

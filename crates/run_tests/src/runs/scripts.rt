@@ -19,6 +19,11 @@ pub(super) const MANY_LINES_LINE: &[u8] = b"vale: lines 10001 over 10000\n";
 /// same.
 pub(super) const EXAMPLES: &[Case] = &[
     (EMPTY, EMPTY, EMPTY_TEXT),
+    (
+        b"pool 262144\n",
+        EMPTY,
+        b"vale 2 pool 262144\nend 0 free 262144\n",
+    ),
     // Two stations, and what the switch learns.
     (
         b"pool 64\nuser ana\nuser bob\nuser cem\nopen ana vale0:a 4 4\nopen bob vale0:b 4 4\nopen cem vale0:c 4 4\nput ana vale0:a 1 ff:ff:ff:ff:ff:ff 02:00:00:00:00:0a 14 00\ntx ana vale0:a\nput bob vale0:b 1 02:00:00:00:00:0a 02:00:00:00:00:0b 14 00\ntx bob vale0:b\nrx ana vale0:a\nrx cem vale0:c\n",
@@ -101,9 +106,9 @@ pub(super) const LINES: &[(&[u8], &[u8])] = &[
         b"pool 64\nuser a\nuser b\nuser c\nopen a vale0:a 4 4\nopen b vale0:b 4 4\nopen c vale0:c 4 4\nput a vale0:a 1 ff:ff:ff:ff:ff:ff 02:00:00:00:00:0a 14 00\npoke a vale0:a tx 0 flags 8\ntx a vale0:a\nput b vale0:b 1 02:00:00:00:00:0a 02:00:00:00:00:0b 14 00\ntx b vale0:b\n",
         b"7 1 send 4 ~ffffffffffff02000000000a88b5 = short 0 lone 0 to 5*1,6*1\n8 1 grant 7 5 = given 1 full 0 gone 0\n9 1 done 8\n10 1 grant 7 6 = given 1 full 0 gone 0\n11 1 done 10\n12 2 send 5 02000000000a02000000000b88b5 = short 0 lone 0 to 4*1,6*1\n",
     ),
-    // A ring of 1,024 slots that goes round; one frame to nobody, and none.
+    // A ring of 4,096 slots that goes round; one frame to nobody, and none.
     (
-        b"pool 2048\nuser a\nopen a vale0:a 1024 4\nput a vale0:a 1023 ff:ff:ff:ff:ff:ff 02:00:00:00:00:0a 0 00\ntx a vale0:a\nput a vale0:a 1 ff:ff:ff:ff:ff:ff 02:00:00:00:00:0a 14 00\ntx a vale0:a\ntx a vale0:a\n",
+        b"user a\nopen a vale0:a 4096 4\nput a vale0:a 4095 ff:ff:ff:ff:ff:ff 02:00:00:00:00:0a 0 00\ntx a vale0:a\nput a vale0:a 1 ff:ff:ff:ff:ff:ff 02:00:00:00:00:0a 14 00\ntx a vale0:a\ntx a vale0:a\n",
         b"4 1 send 2 ffffffffffff02000000000a88b5 = short 0 lone 1 to -\n5 1 send 2 - = short 0 lone 0 to -\n",
     ),
     // Each fault of a pushed slot, and a frame behind them.
@@ -151,12 +156,98 @@ pub(super) const LINES: &[(&[u8], &[u8])] = &[
         b"pool 10\nuser a\nopen a vale0:a 4 4\nopen a vale0:b 2 2\nopen a vale0:c 1 2\nopen a vale0:d 2 2 3\nopen a vale0:e 2 2 1025\n",
         b"2 1 open vale0:a 4 4 0 = ok\n3 1 open vale0:b 2 2 0 = nobuffers 4 2\n4 1 open vale0:c 1 2 0 = badsize\n5 1 open vale0:d 2 2 3 = nobuffers 7 2\n6 1 open vale0:e 2 2 1025 = badsize\n",
     ),
-    // One port more than a switch may have.
+    // The largest rings, and a larger one.
     (
-        b"user a\nopen a vale0:p0 2 2\nopen a vale0:p1 2 2\nopen a vale0:p2 2 2\nopen a vale0:p3 2 2\nopen a vale0:p4 2 2\nopen a vale0:p5 2 2\nopen a vale0:p6 2 2\nopen a vale0:p7 2 2\nopen a vale0:p8 2 2\nopen a vale0:p9 2 2\nopen a vale0:p10 2 2\nopen a vale0:p11 2 2\nopen a vale0:p12 2 2\nopen a vale0:p13 2 2\nopen a vale0:p14 2 2\nopen a vale0:p15 2 2\nopen a vale0:p16 2 2\n",
-        b"17 1 open vale0:p15 2 2 0 = ok\n18 1 open vale0:p16 2 2 0 = portsfull\n",
+        b"user a\nopen a vale0:a 4096 4096\nopen a vale0:b 4097 2\n",
+        b"2 1 open vale0:a 4096 4096 0 = ok\n3 1 open vale0:b 4097 2 0 = badsize\n",
+    ),
+    // Two slots are one frame, whose first slot tells that its source is not learned.
+    (
+        b"pool 64\nuser a\nuser b\nopen a vale0:a 4 4\nopen b vale0:b 4 4\nput a vale0:a 2 ff:ff:ff:ff:ff:ff 02:00:00:00:00:0a 14 00\npoke a vale0:a tx 0 flags 40\ntx a vale0:a\n",
+        b"5 1 send 3 ~ffffffffffff02000000000a88b5ffffffffffff02000000000a88b5 = short 0 lone 0 to 4*1\n",
+    ),
+    // What its other slot tells of that is passed over. It comes in one slot.
+    (
+        b"pool 64\nuser a\nuser b\nopen a vale0:a 4 4\nopen b vale0:b 4 4\nput a vale0:a 2 ff:ff:ff:ff:ff:ff 02:00:00:00:00:0a 14 00\npoke a vale0:a tx 0 flags 32\npoke a vale0:a tx 1 flags 8\ntx a vale0:a\nrx b vale0:b\nrx b vale0:b\n",
+        b"5 1 send 3 ffffffffffff02000000000a88b5ffffffffffff02000000000a88b5 = short 0 lone 0 to 4*1\n6 1 grant 5 4 = given 1 full 0 gone 0\n7 1 done 6\n8 2 sync 4 - = gave 1 to -\n9 2 sync 4 14 = gave 0 to -\n",
+    ),
+    // The last slot that is pushed does not go on.
+    (
+        b"pool 64\nuser a\nuser b\nopen a vale0:a 4 4\nopen b vale0:b 4 4\nput a vale0:a 1 ff:ff:ff:ff:ff:ff 02:00:00:00:00:0a 14 00\npoke a vale0:a tx 0 flags 32\ntx a vale0:a\n",
+        b"5 1 reset 3 tx fragment 0\n",
+    ),
+    // A frame of two short slots comes in one, which is forwarded with all its bytes.
+    (
+        b"pool 64\nuser a\nuser b\nopen a vale0:a 4 4\nopen b vale0:b 4 4\nopen b vale1:b 4 4\nput a vale0:a 2 ff:ff:ff:ff:ff:ff 02:00:00:00:00:0a 14 00\npoke a vale0:a tx 0 flags 32\ntx a vale0:a\nrx b vale0:b\nfwd b vale0:b vale1:b 1\ntx b vale1:b\n",
+        b"9 2 sync 4 - = gave 1 to -\n10 2 send 5 ffffffffffff02000000000a88b5ffffffffffff02000000000a88b5 = short 0 lone 1 to -\n",
+    ),
+    // A frame of two slots is forwarded whole, and a pipe's end takes none.
+    (
+        b"pool 64\nuser a\nuser b\nopen a vale0:a 4 4\nopen b vale0:b 4 4\nopen b vale1:b 4 4\nopen b pipe0{ 4 4\nput a vale0:a 2 ff:ff:ff:ff:ff:ff 02:00:00:00:00:0a 2048 00\npoke a vale0:a tx 0 flags 32\ntx a vale0:a\nrx b vale0:b\nfwd b vale0:b pipe0{ 1\nfwd b vale0:b vale1:b 1\nrx b vale0:b\n",
+        b"10 2 sync 4 - = gave 1 to -\n11 2 sync 4 18-19 = gave 0 to -\n",
     ),
 ];
+
+/// A script that opens ports of one switch, which are named with three digits.
+pub(super) struct Opening {
+    /// The lines before and behind those that open the ports.
+    pub(super) before: &'static [u8],
+    pub(super) behind: &'static [u8],
+    pub(super) ports: u8,
+    /// How each line that opens one ends.
+    pub(super) sizes: &'static [u8],
+    /// Lines that stand in what the script writes, and how many grants give a frame.
+    pub(super) lines: &'static [u8],
+    pub(super) given: usize,
+}
+
+pub(super) const OPENINGS: &[Opening] = &[
+    // The last port that a switch takes, and one more.
+    Opening {
+        before: b"user a\n",
+        behind: EMPTY,
+        ports: 255,
+        sizes: b" 2 2\n",
+        lines: b"255 1 open vale0:p253 2 2 0 = ok\n256 1 open vale0:p254 2 2 0 = portsfull\n",
+        given: 0,
+    },
+    // A broadcast goes to all other ports of a switch that has its last one.
+    Opening {
+        before: b"user a\n",
+        behind: b"put a vale0:p000 1 ff:ff:ff:ff:ff:ff 02:00:00:00:00:0a 14 00\ntx a vale0:p000\n",
+        ports: 254,
+        sizes: b" 2 2\n",
+        lines: b",254*1,255*1\n257 1 grant 256 3 = given 1 full 0 gone 0\n258 1 done 257\n",
+        given: 253,
+    },
+    // The largest pool is handed out.
+    Opening {
+        before: b"pool 262144\nuser a\n",
+        behind: EMPTY,
+        ports: 29,
+        sizes: b" 4096 4096 1024\n",
+        lines: b"29 1 open vale0:p027 4096 4096 1024 = ok\n30 1 open vale0:p028 4096 4096 1024 = nobuffers 9216 4096\n",
+        given: 0,
+    },
+];
+
+/// The end of a grant that gives a frame.
+pub(super) const GIVEN: &[u8] = b" = given 1 full 0 gone 0\n";
+
+/// Puts a frame in each of 65 slots.
+pub(super) const SLOTS_PUT: &[u8] =
+    b"pool 256\nuser a\nuser b\nopen a vale0:a 128 4\nopen b vale0:b 4 4\nput a vale0:a 65 ff:ff:ff:ff:ff:ff 02:00:00:00:00:0a 14 00\n";
+
+/// What stands before and behind the bytes of the frame of the first 64 slots, and of the one behind it.
+pub(super) const LONGEST_BEFORE: &[u8] = b"5 1 send 3 ";
+
+pub(super) const LONGEST_BEHIND: &[u8] = b" = short 0 lone 0 to 4*2\n";
+
+/// The bytes of each slot.
+pub(super) const SLOT_BYTES: &[u8] = b"ffffffffffff02000000000a88b5";
+
+/// The slot in which a frame must end.
+pub(super) const LONGER_REFUSED: &[u8] = b"5 1 reset 3 tx fragment 63\n";
 
 /// Scripts that are not accepted, and the lines that tell why.
 pub(super) const BAD_SCRIPTS: &[Case] = &[
@@ -164,6 +255,8 @@ pub(super) const BAD_SCRIPTS: &[Case] = &[
     (b"user a\nuser a\n", b"vale: script line 2: twice\n", EMPTY),
     // A pool behind another line.
     (b"user a\npool 9\n", b"vale: script line 2: order\n", EMPTY),
+    // A pool of one buffer too many.
+    (b"pool 262145\n", b"vale: script line 1: number\n", EMPTY),
     // A port that is not open.
     (
         b"user a\nclose a vale0:a\n",

@@ -1,6 +1,8 @@
 //! Rows of asks with their answers.
 use super::steps::{Answer, Step};
-use nm_types::{Counts, OpenFault, Sides};
+use nm_types::{
+    Counts, MAX_BATCH, MAX_EXTRA, MAX_FRAME_BYTES, MAX_POOL, MAX_RING, OpenFault, Sides,
+};
 
 /// Asks with their answers.
 pub(super) type Asks = &'static [(Step, Answer)];
@@ -16,10 +18,17 @@ pub(super) const ROWS: &[(u32, Asks, Asks, u32)] = &[
     (64, &[], PIPE, 16),
     (64, THREE, TRANSMITTED, 24),
     (20, &[], RECEIVED, 20),
+    (64, &[], LONG, 22),
+    (64, &[], FITTING, 24),
+    (136, &[], LONGEST, 19),
+    (MAX_POOL, &[], LARGEST, 15),
     (64, &[], COUNTERS, 16),
     (10, &[], OPENINGS, 9),
     (40, &[], NAMES, 20),
 ];
+
+/// A broadcast of three slots from the first port of a user who came first.
+pub(super) const TO_ALL: Step = Step::SendLong(2, &[5000]);
 
 /// Three users, two of which have a port on one switch.
 const THREE: Asks = &[
@@ -159,6 +168,92 @@ const RECEIVED: Asks = &[
     (Step::Sync(3, &[14]), Answer::Gave(0, 0)),
 ];
 
+/// A frame of three slots is counted as one, and its buffers go and come back as three.
+const LONG: Asks = &[
+    (Step::Enter, Answer::Made),
+    (Step::Open(1, "vale0:a", 4, 4, 0), Answer::Opened),
+    (Step::Open(1, "vale0:b", 4, 5, 0), Answer::Opened),
+    (Step::Open(1, "mon0", 0, 4, 0), Answer::Opened),
+    (Step::Watch(4, "vale0:b", Sides::R), Answer::Watching(3)),
+    (Step::SendLong(2, &[5000]), Answer::Offered(3, 1)),
+    (Step::Grant(6, 3), Answer::Shared(1, 0, 0)),
+    (Step::Done(7), Answer::Made),
+    (Step::Sync(3, &[]), Answer::Gave(1, 1)),
+    (Step::Grant(9, 4), Answer::Shared(1, 0, 0)),
+    (Step::Done(10), Answer::Made),
+    (Step::Sync(4, &[]), Answer::Gave(1, 0)),
+    (Step::SendLong(2, &[4097]), Answer::Offered(3, 1)),
+    (Step::Grant(13, 3), Answer::Shared(0, 1, 0)),
+    (Step::Sync(3, &[14, 15, 16]), Answer::Gave(0, 0)),
+];
+
+/// A port and a monitor are given the first frames that fit together in five slots and in two. What is
+/// behind a frame that does not fit is full too.
+const FITTING: Asks = &[
+    (Step::Enter, Answer::Made),
+    (Step::Open(1, "vale0:a", 4, 4, 0), Answer::Opened),
+    (Step::Open(1, "vale0:b", 4, 6, 0), Answer::Opened),
+    (Step::Open(1, "mon0", 0, 3, 0), Answer::Opened),
+    (Step::Watch(4, "vale0:a", Sides::T), Answer::Watching(2)),
+    (Step::SendLong(2, &[4096, 4097, 14]), Answer::Offered(3, 2)),
+    (Step::Grant(6, 3), Answer::Shared(2, 1, 0)),
+    (Step::Done(7), Answer::Made),
+    (Step::Grant(6, 4), Answer::Shared(1, 2, 0)),
+    (Step::Done(9), Answer::Made),
+    (Step::Sync(3, &[]), Answer::Gave(2, 0)),
+    (Step::Sync(4, &[]), Answer::Gave(1, 0)),
+    (Step::Sync(3, &[14, 15, 16, 17, 18]), Answer::Gave(0, 0)),
+    (Step::SendLong(2, &[14, 10_000, 14]), Answer::Offered(3, 2)),
+    (Step::Grant(14, 3), Answer::Shared(1, 2, 0)),
+    (Step::Done(15), Answer::Made),
+    (Step::Grant(14, 4), Answer::Shared(0, 3, 0)),
+];
+
+/// The longest frame takes all 64 slots that a ring of 65 has for it, and never fits in one of 64.
+const LONGEST: Asks = &[
+    (Step::Enter, Answer::Made),
+    (Step::Open(1, "vale0:a", 2, 2, 0), Answer::Opened),
+    (Step::Open(1, "vale0:b", 2, 65, 0), Answer::Opened),
+    (Step::Open(1, "mon0", 0, 64, 0), Answer::Opened),
+    (Step::Watch(4, "vale0:b", Sides::R), Answer::Watching(3)),
+    (Step::SendLong(2, &[MAX_FRAME_BYTES]), Answer::Offered(3, 1)),
+    (Step::Grant(6, 3), Answer::Shared(1, 0, 0)),
+    (Step::Done(7), Answer::Made),
+    (Step::Sync(3, &[]), Answer::Gave(1, 1)),
+    (Step::Grant(9, 4), Answer::Shared(0, 1, 0)),
+    (Step::SendLong(2, &[14]), Answer::Offered(3, 1)),
+    (Step::Grant(11, 3), Answer::Shared(0, 1, 0)),
+    (
+        Step::SendLong(2, &[MAX_FRAME_BYTES + 1]),
+        Answer::NotEnabled,
+    ),
+];
+
+/// The largest rings and batches, by frames and by slots, and larger ones.
+const LARGEST: Asks = &[
+    (Step::Enter, Answer::Made),
+    (Step::Open(1, "vale0:a", MAX_RING, 2, 0), Answer::Opened),
+    (Step::Open(1, "vale0:b", 2, MAX_RING, 0), Answer::Opened),
+    (
+        Step::Open(1, "vale0:c", 2, MAX_RING + 1, 0),
+        Answer::Refused(OpenFault::BadSize),
+    ),
+    (Step::Send(2, 0x0a, MAX_BATCH), Answer::Offered(3, 1)),
+    (Step::Grant(5, 3), Answer::Shared(MAX_RING - 1, 0, 0)),
+    (Step::Done(6), Answer::Made),
+    (Step::Sync(3, &[]), Answer::Gave(MAX_RING - 1, 0)),
+    (Step::Send(2, 0x0a, MAX_BATCH + 1), Answer::NotEnabled),
+    (
+        Step::SendLong(2, &[MAX_FRAME_BYTES; 63]),
+        Answer::Offered(3, 1),
+    ),
+    (Step::Grant(9, 3), Answer::Shared(0, 63, 0)),
+    (
+        Step::SendLong(2, &[MAX_FRAME_BYTES; 64]),
+        Answer::NotEnabled,
+    ),
+];
+
 /// What finds no room is counted.
 const COUNTERS: Asks = &[
     (Step::Enter, Answer::Made),
@@ -199,7 +294,7 @@ const OPENINGS: Asks = &[
         Answer::Refused(OpenFault::NoBuffers { want: 7, have: 2 }),
     ),
     (
-        Step::Open(1, "vale0:e", 2, 2, 1025),
+        Step::Open(1, "vale0:e", 2, 2, MAX_EXTRA + 1),
         Answer::Refused(OpenFault::BadSize),
     ),
 ];

@@ -7,13 +7,15 @@ use std::alloc::Global;
 use std::process::Abort;
 use vale_entry::{Ask, Dest, Dests, Item, Items, Numbers, Reply};
 
-/// An ask. Frames are broadcasts of 14 bytes, whose source ends with a byte that is given.
+/// An ask. Frames are broadcasts of 14 bytes, whose source ends with a byte that is given, or have as
+/// many bytes as are given for each.
 #[derive(Clone, Copy)]
 pub(super) enum Step {
     Enter,
     Open(u32, &'static str, u32, u32, u32),
     Watch(u32, &'static str, Sides),
     Send(u32, u8, usize),
+    SendLong(u32, &'static [usize]),
     Grant(u32, u32),
     Done(u32),
     Sync(u32, &'static [u32]),
@@ -56,6 +58,17 @@ fn batch(alloc: Global, source: u8, count: usize) -> Result<Batch, NoMemory> {
     let mut batch = Batch::new(alloc);
     for _ in 0..count {
         batch.push(&broadcast(source), false)?;
+    }
+    Ok(batch)
+}
+
+/// A broadcast of each of these lengths.
+fn long(alloc: Global, lens: &[usize]) -> Result<Batch, NoMemory> {
+    let mut bytes = Vec::from_slice(alloc, &broadcast(10))?;
+    let mut batch = Batch::new(alloc);
+    for len in lens {
+        bytes.resize(*len, 7)?;
+        batch.push(&bytes, false)?;
     }
     Ok(batch)
 }
@@ -106,6 +119,10 @@ fn ask_at(alloc: Global, port: PortId, step: Step) -> Result<Ask, NoMemory> {
             port,
             frames: batch(alloc, source, count)?,
         },
+        Step::SendLong(_, lens) => Ask::Send {
+            port,
+            frames: long(alloc, lens)?,
+        },
         Step::Put(_, indices) => Ask::Put {
             port,
             offered: items(alloc, indices)?,
@@ -144,6 +161,7 @@ pub(super) fn ask_of(rt: &impl Abort, alloc: Global, step: Step) -> Result<Ask, 
             session: SessionId(session),
         }),
         Step::Send(port, _, _)
+        | Step::SendLong(port, _)
         | Step::Sync(port, _)
         | Step::Get(port, _)
         | Step::Put(port, _)

@@ -80,6 +80,11 @@ pub(super) fn send<R: Abort + Wait, G: Gate>(
     gate: &G,
 ) -> Sent {
     user.session.put_frame(user.port, frame);
+    send_pushed(rt, user, gate)
+}
+
+/// Sends the one frame that was put at a user's port.
+fn send_pushed<R: Abort + Wait, G: Gate>(rt: &R, user: &mut User, gate: &G) -> Sent {
     assert!(rt; user.session.ring(user.port, Side::Tx).is_some());
     match user.session.tx_sync(rt, user.port, gate) {
         Ok(sent) => {

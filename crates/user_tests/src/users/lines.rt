@@ -10,7 +10,7 @@ use vale_fabric::{Fabric, Pass};
 /// Room for any life here.
 const LIMITS: Limits = Limits {
     entries: 10_000,
-    bytes: 100_000,
+    bytes: 1_000_000,
 };
 
 /// No extra buffers.
@@ -69,7 +69,7 @@ pub(super) fn are_lines(rt: &impl Abort, history: &History, wanted: &[(u32, Line
     assert_eq!(rt; at, wanted.len());
 }
 
-/// Users live on a fabric of 128 buffers. Answers what their life told, and what was recorded once all
+/// Users live on a fabric of 256 buffers. Answers what their life told, and what was recorded once all
 /// have left: every buffer is free again.
 pub(super) fn play<R: AllocGlobal + Abort + Wait, T, F: FnOnce(&Fabric, Pass) -> T>(
     rt: &R,
@@ -77,7 +77,7 @@ pub(super) fn play<R: AllocGlobal + Abort + Wait, T, F: FnOnce(&Fabric, Pass) ->
 ) -> Result<(T, History), NoMemory>
     requires { (fabric : _) (pass : _) → IsPassIn fabric.now pass → F.pre life fabric pass }
 {
-    let (fabric, mut pass) = Fabric::new(rt.alloc(), 128, LIMITS)?;
+    let (fabric, mut pass) = Fabric::new(rt.alloc(), 256, LIMITS)?;
     let told = life(&fabric, fabric.fork(&mut pass));
     let book = fabric.close(rt, pass);
     assert!(rt; book.free() == book.buffers());

@@ -1,5 +1,6 @@
 use Rattle.std.proofs.Common.{◌≡◌, ◌<◌, Some, false, true, length, replicate, sym, ◌∙◌, arith}
 use Rattle.std.proofs.lemmas.List.{length-set, length-replicate}
+use Rattle.nm_types.specs.Limits.{most_extra}
 use Rattle.nm_extra.specs.Extras.{position_at}
 use Rattle.nm_extra.proofs.Found.{position-below, none_marked}
 use Rattle.nm_extra.proofs.Walks.{walk_starts, walk_goes, walk_leaves, walk_meets}
@@ -8,8 +9,8 @@ use Rattle.nm_extra.proofs.chain.walk.Goals.{in_default-via-in-Some+else-not-met
 
 pub loop-found-init : goal.loop-found-init
 loop-found-init c = record {
-  walked = walk_starts c.args.hold.now c.args.port c.args.head c.held-extras.result (replicate 1024 false) (none_marked 1024);
-  size = length-replicate 1024 false;
+  walked = walk_starts c.args.hold.now c.args.port c.args.head c.held-extras.result (replicate most_extra false) (none_marked most_extra);
+  size = length-replicate most_extra false;
 }
 
 pub bounds-met-here : goal.bounds-met-here

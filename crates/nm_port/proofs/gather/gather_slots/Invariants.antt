@@ -1,7 +1,11 @@
-use Rattle.std.proofs.Common.{◌≡◌, ◌++◌, map, take}
-use Rattle.nm_types.specs.Slots.{frame_at}
+use Rattle.std.proofs.Common.{◌≡◌, ◌<◌, true, length, drop}
 use Rattle.nm_port.specs.Own.{bytes_in_hold}
+use Rattle.nm_port.specs.Gathered.{gathered, goes_on_behind}
 use Rattle.nm_port.proofs.gather.gather_slots.Given as goal
 
-abbrev pub invariant-loop-slot : goal.invariant-loop-slot
-invariant-loop-slot l = l.batch ≡ l.fn.batch ++ map (frame_at (bytes_in_hold l.hold)) (take l.slot-index l.slots)
+abbrev pub invariant-loop-i : goal.invariant-loop-i
+invariant-loop-i l = record {
+  frames : gathered (bytes_in_hold l.hold) l.batch l.open (drop l.i l.slots) ≡ gathered (bytes_in_hold l.hold) l.fn.batch l.begun l.slots;
+  begun : goes_on_behind l.open (drop l.i l.slots) ≡ goes_on_behind l.begun l.slots;
+  some : l.open ≡ true → 0 < length l.batch;
+}

@@ -1,4 +1,5 @@
 use Rattle.std.proofs.Common.{◌≡◌, ◌∙◌, ◌∷◌, ◌++◌, ◌+◌, ◌≤◌, [], length, reverse, refl, ap, arith, length-append, rules}
+use Rattle.nm_types.specs.Limits.{most_ring}
 use Rattle.nm_hold.specs.Holds.{HoldState}
 use Rattle.nm_port.specs.Sides.{name_at}
 use Rattle.nm_port.specs.Exchanges.{user_position, user_place}
@@ -48,5 +49,5 @@ loop-idx-preserved c =
     rw (changed_back x.0 c.loop-idx.hold (user_place id r (length left)) (name_at r (user_position r (length left))) c.in-Some.idx x.1.0 c.exchange.new.self places c.exchange.ensures.all named c.exchange.ensures.ports c.exchange.ensures.hold) x.1.1) in
     let was = c.loop-idx.invariant.0 in
     let count : length c.loop-idx.was.items ≡ length left + 1 = ap length last ∙ length-append left (c.in-Some.idx ∷ []) in
-    let few : length left ≤ 1024 = omega (arith, count, c.loop-idx.invariant.2) in
+    let few : length left ≤ most_ring = omega (arith, count, c.loop-idx.invariant.2) in
     ((was.0, back was.0 was.1), (λ h start. back h (c.loop-idx.invariant.1 h start)), few)

@@ -1,5 +1,6 @@
 use Rattle.std.proofs.Common.{Bool, nat_le, if◌then◌else◌, None, ◌≡◌, ◌∙◌, ◌∷◌, ◌++◌, ◌+◌, ◌≤◌, [], length, reverse, List, Some, refl, ap, arith, length-append, rules}
 use Rattle.std.specs.Vec.{vec_capacity}
+use Rattle.nm_types.specs.Limits.{most_ring}
 use Rattle.nm_region.specs.Buffers.{Buffer}
 use Rattle.nm_hold.specs.Holds.{HoldState, index_at, with_cell}
 use Rattle.nm_hold.proofs.Spots.{same_place-refl}
@@ -59,6 +60,6 @@ loop-buf-preserved c =
     rw (put_back x.0 c.loop-buf.hold (place_of_run run (length left)) named buf x.1.0 c.put.new.hold cell) x.1.1) in
     let out = c.loop-buf.invariant.0 in
     let count : length c.loop-buf.bufs.items ≡ length left + 1 = ap (λ (xs : List Buffer). length xs) last ∙ length-append left (buf ∷ []) in
-    let few : length left ≤ 1024 = omega (arith, count, c.loop-buf.invariant.2) in
+    let few : length left ≤ most_ring = omega (arith, count, c.loop-buf.invariant.2) in
     let room : vec_capacity c.pop.new.self ≡ vec_capacity c.args.bufs.now = c.pop.ensures.capacity ∙ c.loop-buf.invariant.3 in
     ((out.0, back out.0 out.1), (λ h start. back h (c.loop-buf.invariant.1 h start)), few, room)

@@ -1,9 +1,9 @@
-use Rattle.std.proofs.Common.{◌≡◌, [], ◌∷◌, ◌++◌, ap, sym, ◌∙◌, List, rules}
-use Rattle.std.proofs.lemmas.List.{map-append, append_assoc}
+use Rattle.std.proofs.Common.{◌≡◌, [], ◌∷◌, ◌++◌, ap, sym, ◌∙◌, List, arith, rules}
+use Rattle.std.proofs.lemmas.List.{map-append, append_assoc, length-take}
 use Rattle.std.proofs.lemmas.List.Elements.{All-push}
 use Rattle.nm_region.specs.Buffers.{Buffer}
 use Rattle.vale_line.specs.declared.got.Got.{Got}
-use Rattle.vale_line.specs.Gots.{buffer_of, buffers_of, IsSingle}
+use Rattle.vale_line.specs.Gots.{buffer_of, buffers_of, FitsPart, IsSingle}
 use Rattle.switch_tests.proofs.lines.frames_of.Goals as goal
 
 -- one more frame of one part
@@ -20,5 +20,6 @@ loop-buf-preserved c =
           ∙ (append_assoc (buffers_of gots) (c.in-Some.buf ∷ []) rest
           ∙ (ap (λ (bs : List Buffer). buffers_of gots ++ bs) (sym front) ∙ c.loop-buf.invariant.moved)));
       single = rw added (All-push IsSingle gots got c.loop-buf.invariant.single alone);
+      fits = rw added (All-push FitsPart gots got c.loop-buf.invariant.fits (let size = length-take 14 got.buf.bytes in omega (arith, size)));
       room = search rules;
     }

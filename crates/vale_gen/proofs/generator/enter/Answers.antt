@@ -1,4 +1,4 @@
-use Rattle.std.proofs.Common.{ℕ, ◌-◌, ◌≡◌, [], ◌∷◌, sym, ap, ◌∙◌, arith}
+use Rattle.std.proofs.Common.{◌-◌, ◌≡◌, [], ◌∷◌, sym, ap, ◌∙◌, arith}
 use Rattle.vale_gen.specs.Load.{enters}
 use Rattle.vale_gen.specs.Sheets.{Sheet, with_deeds}
 use Rattle.vale_gen.proofs.Adding.{users_more, users_next, with_none}

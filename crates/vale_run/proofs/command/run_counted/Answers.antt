@@ -1,7 +1,7 @@
 use Rattle.std.proofs.Common.{ℕ, ◌≤◌, List, length, Option, refl, sym, subst, arith}
 use Rattle.std.specs.Str.Lines.{lines}
 use Rattle.nm_io.specs.Files.{Files}
-use Rattle.nm_types.specs.declared.limits.TheConstants.Limits.{VERSION_1}
+use Rattle.nm_types.specs.declared.limits.TheConstants.Limits.{VERSION_2}
 use Rattle.vale_captures.specs.Inputs.{AreInputs, StopsReading}
 use Rattle.vale_captures.proofs.Few.{plays-few}
 use Rattle.vale_run.specs.Run.{Io, io_of, HasInputs}
@@ -55,7 +55,7 @@ returns-in-Ok-clause-ends g c = λ name counted.
       within = read.1.1;
     } in
     ends-since g.S.Shelf g.K.Sink c.args.shelf.now c.read_inputs.new.shelf c.run_inputs.new.shelf
-    c.args.out.now c.run_inputs.new.out VERSION_1 name c.run_inputs.result
+    c.args.out.now c.run_inputs.new.out VERSION_2 name c.run_inputs.result
     c.read_inputs.ensures.files c.read_inputs.ensures.reads_later
     c.read_inputs.ensures.appends_later
     (c.run_inputs.ensures.ends name (subst
@@ -66,7 +66,7 @@ pub returns-in-Err-clause-ends : goal.returns-in-Err-clause-ends
 returns-in-Err-clause-ends g c = λ name counted.
     let io : Io = io_of g.S.Shelf g.K.Sink c.args.shelf.now c.read_inputs.new.shelf c.args.out.now
     c.args.out.now in
-    ends-input VERSION_1 io name c.args.script.now counted
+    ends-input VERSION_2 io name c.args.script.now counted
     (record { sink = refl; shelf = c.read_inputs.ensures.files }) c.in-Err.at c.in-Err.fault
     c.input_fault.result
     (subst (λ (names : List (List ℕ)). StopsReading (g.S.Shelf.files c.args.shelf.now) names

@@ -1,5 +1,5 @@
 use Rattle.std.proofs.Common.{List, ℕ, ◌≡◌, map, string_bytes, Option, Some, None, option_map, sym, ◌∙◌, ap, subst, arith}
-use Rattle.nm_types.specs.declared.limits.TheConstants.Limits.{VERSION_1}
+use Rattle.nm_types.specs.declared.limits.TheConstants.Limits.{VERSION_2}
 use Rattle.vale_run.specs.Run.{Io, io_of, script_name}
 use Rattle.vale_run.specs.Load.{load_number}
 use Rattle.vale_run.specs.Migrate.{text_name}
@@ -16,7 +16,7 @@ returns-in-Some-clause-completes g c =
     let is : Some c.in-Some.name.now ≡ script_name words =
     sym (ap (option_map (λ name. name.now)) c.in-Some.is) ∙ c.script_name.ensures in
     subst (λ (script : Option (List ℕ)). Completes script (load_number words) (text_name words) io c.run_file.result) is
-    (named-complete VERSION_1 (omega arith) (omega arith) c.in-Some.name.now io c.run_file.result
+    (named-complete VERSION_2 (omega arith) (omega arith) c.in-Some.name.now io c.run_file.result
     (load_number words) (text_name words) c.run_file.ensures.ends)
 
 pub returns-in-Some-text_name-clause-completes : goal.returns-in-Some-text_name-clause-completes

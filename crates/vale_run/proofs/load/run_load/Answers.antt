@@ -1,5 +1,5 @@
 use Rattle.std.proofs.Common.{ℕ, ◌∙◌, sym, subst}
-use Rattle.nm_types.specs.declared.limits.TheConstants.Limits.{VERSION_1}
+use Rattle.nm_types.specs.declared.limits.TheConstants.Limits.{VERSION_2}
 use Rattle.vale_run.specs.Load.{LoadEnds}
 use Rattle.vale_run.specs.declared.status.Status.{Status}
 use Rattle.vale_run.proofs.Loads.{play-of, ends-load, ends-stopped, stops-few}
@@ -32,5 +32,5 @@ returns-clause-ends g c =
     let holds = g.K.Sink.holds c.args.out.now in
     let p = play-of c.args.n c.in-Ok.script c.from-inputs.result book played c.in-Ok.ensures.value
     (c.from-inputs.ensures ∙ c.new.ensures.items) c.in-Ok-play_recorded.ensures in
-    subst (λ (status : Status). LoadEnds VERSION_1 c.args.n counts holds holds status)
+    subst (λ (status : Status). LoadEnds VERSION_2 c.args.n counts holds holds status)
     (sym c.stopped.ensures) (ends-stopped c.args.n book played p c.in-Err.fault c.in-Err.is counts holds)

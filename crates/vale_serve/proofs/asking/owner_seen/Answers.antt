@@ -1,4 +1,4 @@
-use Rattle.std.proofs.Common.{◌≡◌, Option, None, sym, ◌∙◌, subst}
+use Rattle.std.proofs.Common.{Option, None, sym, ◌∙◌, subst}
 use Rattle.std.specs.Prelude.{IfSome, position, ◌≢◌}
 use Rattle.vale_book.specs.Asking.{IsSeenAs}
 use Rattle.vale_book.specs.declared.asking.PortSeen.{PortSeen}

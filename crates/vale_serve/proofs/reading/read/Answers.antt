@@ -1,16 +1,18 @@
-use Rattle.std.proofs.Common.{ℕ, List, length, sym, ◌∙◌, ap, subst, arith, rules}
+use Rattle.std.proofs.Common.{ℕ, ◌≡◌, List, length, sym, ◌∙◌, ap, subst, arith, rules}
 use Rattle.nm_region.specs.Buffers.{Buffer, indices_of}
 use Rattle.vale_entry.specs.Legal.{IsEnabled}
 use Rattle.vale_book.specs.BookView.{AreOf}
 use Rattle.vale_book.specs.Reading.{read_ask}
 use Rattle.vale_book.specs.Recorded.{Recorded, standing}
-use Rattle.vale_serve.specs.Reading.{copies_of}
+use Rattle.vale_port.specs.Ports.{sizes_of}
+use Rattle.vale_entry.specs.Delivery.{delivered_frames}
+use Rattle.vale_serve.specs.Reading.{copied_sizes}
 use Rattle.vale_serve.specs.Exchange.{HasRead}
 use Rattle.vale_serve.specs.Replies.{last_dests}
 use Rattle.vale_serve.specs.Users.{IsUser}
 use Rattle.vale_serve.proofs.Acting.{unserved, user-same, settled-parts}
 use Rattle.vale_serve.proofs.Exchanges.{back-kept}
-use Rattle.vale_serve.proofs.PortReads.{ReadOf, read-of, read-plain, can-read-is, can-read-parts, read-enabled, read-refused, few-copies, count, few-dests, read-served, read-kept}
+use Rattle.vale_serve.proofs.PortReads.{ReadOf, read-of, read-plain, can-read-is, can-read-parts, read-enabled, read-refused, count, frames, sizes-told, few-dests, read-served, read-kept}
 use Rattle.vale_serve.proofs.reading.read.Goals.{In-Ok}
 use Rattle.vale_serve.proofs.reading.read.Goals as goal
 
@@ -22,6 +24,12 @@ returns-then-not-can_read-clause-served c =
 
 pub returns-in_err-room-clause-served : goal.returns-in_err-room-clause-served
 returns-in_err-room-clause-served c =
+    let full = read-refused c.args.book.now c.args.user.now c.args.port c.args.seen c.args.is_pipe c.args.back.now c.requires.legal c.requires.user c.requires.asker
+    (sym c.can_read.ensures ∙ c.if-not-can_read.false) in
+    search rules
+
+pub returns-in_err-sizes-clause-served : goal.returns-in_err-sizes-clause-served
+returns-in_err-sizes-clause-served c =
     let full = read-refused c.args.book.now c.args.user.now c.args.port c.args.seen c.args.is_pipe c.args.back.now c.requires.legal c.requires.user c.requires.asker
     (sym c.can_read.ensures ∙ c.if-not-can_read.false) in
     search rules
@@ -42,16 +50,22 @@ read-requires-clause-of c =
 
 -- what the read gave and left
 what-is-read : (c : In-Ok) → ReadOf c.args.book.now c.read.new.self c.room_to_read.new.user c.take_from.new.user c.args.is_pipe c.args.port c.args.back.now c.take_from.result.items c.in-Ok.synced.got.items
-    c.in-Ok.synced.offers c.ready.result
+    c.in-Ok.synced.offers c.ready-ready.result
 what-is-read c =
     read-of c.args.book.now c.read.new.self c.args.user.now c.room_to_read.new.user c.take_from.new.user c.args.is_pipe c.args.port c.args.seen c.args.back.now c.take_from.result.items c.in-Ok.synced.got.items
-    c.in-Ok.synced.offers c.ready.result c.requires.legal c.requires.user c.requires.asker (sym c.can_read.ensures ∙ c.if-not-can_read.false) c.room_to_read.ensures.same c.take_from.ensures
-    c.in-Ok.ensures.made c.in-Ok.ensures.said c.in-Ok.ensures.room c.in-Ok.ensures.got c.in-Ok.ensures.single c.in-Ok.ensures.offers c.ready.ensures
+    c.in-Ok.synced.offers c.ready-ready.result c.requires.legal c.requires.user c.requires.asker (sym c.can_read.ensures ∙ c.if-not-can_read.false) c.room_to_read.ensures.same c.take_from.ensures
+    c.in-Ok.ensures.made c.in-Ok.ensures.said c.in-Ok.ensures.room c.in-Ok.ensures.got c.in-Ok.ensures.cut c.in-Ok.ensures.offers c.ready-ready.ensures
+
+sizes-are : (c : In-Ok) → c.in_ok-sizes.sizes.items ≡ copied_sizes c.ready-ready.result (sizes_of (delivered_frames (what-is-read c).port))
+sizes-are c = c.in_ok-sizes.ensures (what-is-read c).port (what-is-read c).here
+
+pub take_in-requires-clause-frames : goal.take_in-requires-clause-frames
+take_in-requires-clause-frames c = sym (frames (what-is-read (goal.at.take_in-requires-clause-frames c).In-Ok))
 
 pub take_in-requires-clause-copies : goal.take_in-requires-clause-copies
 take_in-requires-clause-copies c =
-    let r = what-is-read (goal.at.take_in-requires-clause-copies c).In-Ok in
-    rw c.in_ok-room.ensures.room.copies (few-copies c.ready.result c.in-Ok.synced.got.items (count r))
+    let at = (goal.at.take_in-requires-clause-copies c).In-Ok in
+    rw c.in_ok-room.ensures.room.copies (sizes-told (what-is-read at) c.in_ok-sizes.sizes.items (sizes-are at))
 
 pub take_in-requires-clause-room : goal.take_in-requires-clause-room
 take_in-requires-clause-room c =
@@ -82,9 +96,12 @@ returns-in-Ok-clause-served c =
 
 pub returns-in-Ok-clause-kept : goal.returns-in-Ok-clause-kept
 returns-in-Ok-clause-kept c =
-    let r = what-is-read (goal.at.returns-in-Ok-clause-kept c).In-Ok in
-    let has : HasRead c.take_from.new.user c.in-Ok.synced.got.items c.in-Ok.synced.offers (copies_of c.ready.result) c.take_in.new.user = rw (← c.in_ok-room.ensures.room.copies) c.take_in.ensures.taken in
-    read-kept r c.take_in.new.user has c.in_ok-room.ensures.fits.lease
+    let at = (goal.at.returns-in-Ok-clause-kept c).In-Ok in
+    let r = what-is-read at in
+    let sizes = c.in_ok-sizes.sizes.items in
+    let has : HasRead c.take_from.new.user c.in-Ok.synced.got.items c.in-Ok.synced.offers (length sizes) c.take_in.new.user =
+    subst (λ (ns : List ℕ). HasRead c.take_from.new.user c.in-Ok.synced.got.items c.in-Ok.synced.offers (length ns) c.take_in.new.user) c.in_ok-room.ensures.room.copies c.take_in.ensures.taken in
+    read-kept r sizes (sizes-are at) c.take_in.new.user has c.in_ok-room.ensures.fits.lease
 
 pub returns-in-Err-clause-kept : goal.returns-in-Err-clause-kept
 returns-in-Err-clause-kept c =

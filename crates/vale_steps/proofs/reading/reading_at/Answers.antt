@@ -1,5 +1,4 @@
-use Rattle.std.proofs.Common.{◌≡◌}
-use Rattle.nm_types.specs.Frames.{size_of_frames}
+use Rattle.std.proofs.Common.{◌≡◌, length}
 use Rattle.vale_entry.specs.Delivery.{delivered_frames}
 use Rattle.vale_port.specs.Seat.{Seat}
 use Rattle.vale_port.proofs.Places.{of-seat}
@@ -7,4 +6,4 @@ use Rattle.vale_steps.proofs.reading.reading_at.Goals as goal
 
 pub returns-clause-frames : goal.returns-clause-frames
 returns-clause-frames c =
-    of-seat (λ (seat : Seat). c.ready.result ≡ size_of_frames (delivered_frames seat.port)) c.args.ports.now c.args.place c.index-ports-place.result c.index-ports-place.is c.ready.ensures.seat
+    of-seat (λ (seat : Seat). c.ready_frames.result ≡ length (delivered_frames seat.port)) c.args.ports.now c.args.place c.index-ports-place.result c.index-ports-place.is c.ready_frames.ensures.seat

@@ -1,15 +1,20 @@
-use Rattle.std.proofs.Common.{rules, arith, ◌∙◌}
-use Rattle.vale_text.proofs.WrittenSpans.{both-placed}
+use Rattle.std.proofs.Common.{◌≡◌, ◌<◌, ◌+◌, ◌-◌, ℕ, length, drop, get_or, ap, subst, arith, rules}
+use Rattle.std.proofs.lemmas.List.{take_rest, get_or_past}
+use Rattle.vale_text.specs.Spans.{ArePlaced}
+use Rattle.vale_text.proofs.WrittenSpans.{alone-placed, both-placed}
 use Rattle.vale_text.proofs.spans.place_spans.Goals as goal
 
-pub loop-buf-preserved : goal.loop-buf-preserved
-loop-buf-preserved c =
-    let len = c.place_some.ensures.placed.placed.len in
-    record {
-      placed = both-placed c.args.buf.now c.loop-buf.buf c.place_some.new.buf c.args.at c.loop-buf.end c.place_some.result.0 c.args.numbers.now c.loop-buf.rest.now c.place_some.result.2.now
-          c.loop-buf.invariant.placed c.place_some.ensures.placed;
-      within = search rules;
-      same = len ∙ c.loop-buf.invariant.same;
-      fewer = omega (arith, c.place_some.ensures.shorter, c.loop-buf.invariant.fewer);
-      hundreds = c.place_some.ensures.hundreds;
-    }
+pub returns-clause-placed : goal.returns-clause-placed
+returns-clause-placed c =
+    let numbers = c.args.numbers.now in
+    let many = c.place_many-end in
+    let end = c.place_next-end in
+    let done : ℕ = many.result.2 in
+    let last : done ≡ length numbers - 1 = search rules in
+    let some : 0 < length numbers = search rules in
+    let whole : done + 1 ≡ length numbers = omega (arith, last, some) in
+    let past : get_or numbers (done + 1) 0 ≡ 0 = get_or_past numbers (done + 1) 0 (omega (arith, whole)) in
+    rw (take_rest numbers (length numbers))
+    (subst (λ (j : ℕ). ArePlaced c.args.buf.now end.new.buf c.args.at end.result.0 numbers (drop j numbers)) whole
+    (both-placed c.args.buf.now many.new.buf end.new.buf c.args.at many.result.0 end.result.0 numbers (drop done numbers) (drop (done + 1) numbers) many.ensures.placed
+    (alone-placed numbers done (get_or numbers (length numbers - 1) 0) (omega (arith, whole)) (ap (λ (j : ℕ). get_or numbers j 0) last) (λ is. absurd (omega (arith, past, is))) end.ensures.placed)))

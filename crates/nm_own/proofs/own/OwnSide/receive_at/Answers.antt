@@ -92,14 +92,14 @@ step c =
 
 -- the port that has the frame, and the ports with it
 abbrev framed : (c : goal.After-self-1) → UserPort
-framed c = with_frame c.self.inside.hold c.self.inside.ports.items c.args.port c.index_mut.result.now c.index_mut.result.now.rx (step c).receives c.add_received.new.self c.clear_behind.new.buf (take c.args.len c.args.buf.bytes) c.args.len (step c).cleared c.requires.len c.clear_behind.ensures.size (step c).index (step c).cell (step c).places c.add_received.ensures.hold
+framed c = with_frame c.self.inside.hold c.self.inside.ports.items c.args.port c.index_mut.result.now c.index_mut.result.now.rx (step c).receives c.add_received.new.self c.clear_behind.new.buf (take c.args.len c.args.buf.bytes) c.args.len c.args.rest (step c).cleared c.requires.len c.clear_behind.ensures.size (step c).index (step c).cell (step c).places c.add_received.ensures.hold
 
 ports_are : (c : goal.After-self-1) → set c.self.inside.ports.items c.args.at (with_rx c.index_mut.result.now c.publish.new.self)
     ≡ (others c.self.inside.hold c.self.inside.ports.items c.args.port c.index_mut.result.now c.index_mut.result.now.rx (step c).receives).before
     ++ framed c ∷ (others c.self.inside.hold c.self.inside.ports.items c.args.port c.index_mut.result.now c.index_mut.result.now.rx (step c).receives).behind
 ports_are c =
     let p = c.index_mut.result.now in
-    let moved : c.publish.new.self ≡ ring_published c.clear_behind.new.buf.index c.args.len p.rx = c.publish.ensures ∙ ap (λ (n : ℕ). ring_published n c.args.len p.rx) c.index-idx.ensures in
+    let moved : c.publish.new.self ≡ ring_published c.clear_behind.new.buf.index c.args.len c.args.rest p.rx = c.publish.ensures ∙ ap (λ (n : ℕ). ring_published n c.args.len c.args.rest p.rx) c.index-idx.ensures in
     ap (λ (r : RingSlots). set c.self.inside.ports.items c.args.at (with_rx p r)) moved
     ∙ set_there c.self.inside c.self.invariant c.args.self.now c.self.view_is c.args.port c.args.at c.requires.place c.requires.room p (step c).receives (framed c)
 
@@ -112,7 +112,7 @@ invariant_of-self c =
     let buf = c.clear_behind.new.buf in
     let frame = take c.args.len c.args.buf.bytes in
     kept_with c.self.inside _ c.args.port p (framed c) c.self.invariant s.receives.has.same_id (others h ports c.args.port p p.rx s.receives)
-    (changes h ports c.args.port p p.rx s.receives c.add_received.new.self buf frame c.args.len s.cleared c.requires.len c.clear_behind.ensures.size s.index s.cell s.places c.add_received.ensures.hold c.self.invariant.whole) (ports_are c) refl
+    (changes h ports c.args.port p p.rx s.receives c.add_received.new.self buf frame c.args.len c.args.rest s.cleared c.requires.len c.clear_behind.ensures.size s.index s.cell s.places c.add_received.ensures.hold c.self.invariant.whole) (ports_are c) refl
 
 pub returns : goal.returns
 returns c =
@@ -122,8 +122,8 @@ returns c =
     let frame = take c.args.len c.args.buf.bytes in
     record {
       own = ap (own_seen c.add_received.new.self) (ports_are c)
-          ∙ (received_is_seen h c.self.inside.ports.items c.args.port p p.rx s.receives c.add_received.new.self c.clear_behind.new.buf frame c.args.len s.cleared c.requires.len c.clear_behind.ensures.size s.index s.cell s.places c.add_received.ensures.hold
-          ∙ (ap (λ (i : ℕ). let came : Arrival = record { buffer = i; bytes = frame } in own_with_arrival c.args.port.0 (own_seen h c.self.inside.ports.items) came) s.number
-          ∙ ap (λ (o : SideState). let came : Arrival = record { buffer = c.args.buf.index; bytes = frame } in own_with_arrival c.args.port.0 o.own came) c.self.view_is));
+          ∙ (received_is_seen h c.self.inside.ports.items c.args.port p p.rx s.receives c.add_received.new.self c.clear_behind.new.buf frame c.args.len c.args.rest s.cleared c.requires.len c.clear_behind.ensures.size s.index s.cell s.places c.add_received.ensures.hold
+          ∙ (ap (λ (i : ℕ). let came : Arrival = record { buffer = i; bytes = frame; rest = c.args.rest } in own_with_arrival c.args.port.0 (own_seen h c.self.inside.ports.items) came) s.number
+          ∙ ap (λ (o : SideState). let came : Arrival = record { buffer = c.args.buf.index; bytes = frame; rest = c.args.rest } in own_with_arrival c.args.port.0 o.own came) c.self.view_is));
       region = λ region of own. holds_added region h c.add_received.new.self c.clear_behind.new.buf.index _ s.cell (ap (λ (b : Buffer). b.region) c.clear_behind.ensures.cleared ∙ own) (of_seen region h c.self.inside.ports.items c.args.self.now c.self.view_is of);
     }

@@ -23,11 +23,11 @@ invariant_of-self c =
     let farther = dist-add ring.size ring.head ring.last_tail 1 fits.head_within last (omega arith) in
     let all : length slots ≡ dist ring.size ring.accepted_head ring.last_tail = old.count ∙ ap (λ (side : Side). slot_count side ring) rx in
     let same : dist ring.size ring.accepted_head ring.last_tail ≡ dist ring.size ring.head ring.last_tail = ap (λ (at : ℕ). dist ring.size at ring.last_tail) here in
-    let slot = published_slot c.args.buffer c.args.len in
+    let slot = published_slot c.args.buffer c.args.len c.args.rest in
     let more : length (slots ++ slot ∷ []) ≡ dist ring.size ring.head (step_on ring.size ring.last_tail 1) = omega (arith, length-append slots (slot ∷ []), all, same, farther) in (
       record {
         ring = rw new (accepted_ring ring (step_on ring.size ring.last_tail 1) old.ring fits.head_within (step_on-below ring.size ring.last_tail 1 last));
-        count = rw (new, c.push_back_reserved.ensures.items, rx) more;
+        count = rw (new, c.push_back_reserved.ensures.items, rx, c.part_flags.ensures) more;
       },
       rw (new, c.push_back_reserved.ensures.capacity) c.self.invariant.1,
     )

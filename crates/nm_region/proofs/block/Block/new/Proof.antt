@@ -1,5 +1,6 @@
 -- `new` asks the allocator for the lead and as many parts, and has all of them at home. Assumes `Logic`.
 use Rattle.std.proofs.Common.{◌≡◌, ℕ, true, ◌+◌, ◌*◌, ◌^◌, ◌<◌, ◌≤◌, List, [], ◌∷◌, ◌++◌, refl, ◌∙◌, arith, lit<, w64, Some, None}
+use Rattle.nm_types.specs.Limits.{most_pool}
 use mir.Syntax.{Ty, Fn, Args, a_type, dcons, dnil}
 use mir.Val.{Val, vint, vptr, vcons, vnil}
 use mir.MapTy.{inst_fn}
@@ -69,7 +70,7 @@ new_spec 𝓤 𝓛 𝓜 𝓡 wired A L g d dd met md =
     let y = at_takes Y 𝓛 𝓜.mem 𝓡.returns κ q at h m 1 τ in
     let Out : RattleType = type_at En₀.signature.result z.0.0 in
     let Pair : RattleType = Tuple (block.the_row ∷ deed.the_row Z g ∷ []) in
-    let Asked : Type 0 = n ≤ 65536 in
+    let Asked : Type 0 = n ≤ most_pool in
     qed 𝓛 ((raw (alive 𝓛 En₀.signature z.0.0 z.0.1) ⊛ ‵ (owns (types_at En₀.signature.params z.0.0) a vss)) ∷ (raw (fact 𝓤 (z.0.0.1.0 ⊑ A.lives)) ⊛ raw (fact 𝓤 Asked)) ∷ []) ∵
     move ! (1 ∷ []) $ split ! $ heard ! (z.0.0.1.0 ⊑ A.lives) (λ le. heard ! Asked (λ asked. split ! $ move ! (1 ∷ []) $
     fsplit ! $ fsplit ! $ drop ! $ move ! (1 ∷ []) $ drop ! $ use1 𝓛 (‵ (seen Y κ at h)) (id⊢ 𝓤 _) $ move ! (1 ∷ []) $ use1 𝓛 (‵ (flft κ q) ⊛ ‵ (flft z.0.0.1.0 z.0.1.1.0) ⊛ ‵ ftrue) (id⊢ 𝓤 _) $ split ! $ move ! (2 ∷ 0 ∷ []) $ let small : m < 2 ^ 63 = omega (arith, asked) in let near : n * 2048 < 2 ^ 64 = omega (arith, asked) in let fits : m < 2 ^ 64 = omega (arith, asked) in let exact : m ≡ lead + n * 2048 = omega arith in let count : length (replicate n true) ≡ n = length-replicate n true in

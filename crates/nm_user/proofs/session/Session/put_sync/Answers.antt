@@ -12,6 +12,7 @@ use Rattle.vale_fabric.specs.Fabrics.{fixed_in, knowing}
 use Rattle.nm_user.specs.declared.sending.Sent.{Sent}
 use Rattle.nm_user.specs.Sessions.{SessionState, IsThere, own_in, session_seen}
 use Rattle.nm_user.specs.Offering.{IsOffering, CanTake, side_after_fault}
+use Rattle.vale_fabric.proofs.LeaseFilling.{short-frames}
 use Rattle.vale_fabric.proofs.Passing.{passed-by, passed-then}
 use Rattle.nm_user.specs.Syncs.{IsPut, PassesBy, TransmitsNot}
 use Rattle.nm_user.proofs.Written.{region-of, seen_with}
@@ -93,6 +94,9 @@ pub taken-requires : goal.taken-requires
 taken-requires g c =
     let at = goal.at.taken-requires g c in
     (c.in-Some.own, (c.new-offering.result.pending.items, taking g at.In-Ok (puts g at.After-new-offering)))
+
+pub settle-shares-requires-clause-fit : goal.settle-shares-requires-clause-fit
+settle-shares-requires-clause-fit g c = short-frames c.in-Ok.put.copies c.in-Ok.ensures.fit
 
 abbrev after : (g : given.Over) → After-settle-shares g → SessionState
 after g c = record (session_seen c.self.inside) { knows = knowing c.settle-shares.new.pass; own = own_in c.put_back-2.new.away }

@@ -1,4 +1,4 @@
-use Rattle.std.proofs.Common.{rules, ◌≡◌, ◌∙◌, Bool, true, false, [], Some, None, refl, sym, ap, subst}
+use Rattle.std.proofs.Common.{rules, arith, ◌≡◌, ◌∙◌, Bool, true, false, List, [], length, Some, None, refl, sym, ap, subst}
 use Rattle.std.proofs.lemmas.Result.{IfOk-at_ok, IfErr-at_err}
 use Rattle.nm_types.specs.declared.fault.StepFault.{StepFault}
 use Rattle.nm_types.specs.declared.id.PortId.{PortId}
@@ -6,7 +6,8 @@ use Rattle.nm_types.specs.Faults.{sync_fault_of}
 use Rattle.nm_types.specs.OwnPorts.{OwnState}
 use Rattle.nm_types.specs.OwnSyncs.{own_after_receive}
 use Rattle.nm_port.specs.Regions.{SideState, AllOf, AreOf}
-use Rattle.vale_line.specs.Gots.{buffers_of}
+use Rattle.vale_line.specs.declared.got.Got.{Got}
+use Rattle.vale_line.specs.Gots.{buffers_of, frames_in}
 use Rattle.vale_steps.specs.declared.reading.Synced.{Synced}
 use Rattle.vale_fabric.specs.Fabrics.{Refuses, fixed_in, knowing}
 use Rattle.vale_entry.specs.Legal.{kept_ask}
@@ -80,12 +81,19 @@ publish_all-requires g c =
     let read = IfOk-at_ok (IsRead s.fixed s.knows w (reading s.own c.args.port c.args.is_pipe) c.args.port) c.in-Ok.is c.give_and_take-own.ensures.read in
     record { come = can-publish s w c.args.port c.args.is_pipe c.in-Ok.synced (reads g (goal.at.publish_all-requires g c).In-Some) read mid mid-is }
 
+pub frame_count-gave-requires : goal.frame_count-gave-requires
+frame_count-gave-requires g c =
+    let s = seen_with c.self.inside c.in-Some.own in
+    let read = IfOk-at_ok (IsRead s.fixed s.knows (knowing c.give_and_take-own.new.pass) (reading s.own c.args.port c.args.is_pipe) c.args.port) c.in-Ok.is c.give_and_take-own.ensures.read in
+    let few = read.few in
+    omega (arith, few)
+
 -- the session once what it gave is settled, and what it told
 abbrev after : (g : given.Over) → goal.After-put_back-2 g → SessionState
 after g c = record (session_seen c.self.inside) { knows = knowing c.settle.new.pass; own = own_in c.put_back-2.new.away }
 
 abbrev told : (g : given.Over) → goal.After-put_back-2 g → Received
-told g c = record { entry = c.entry-entry.result; gave = c.len.result; returned = c.give_and_take-own.result.1 }
+told g c = record { entry = c.entry-entry.result; gave = c.frame_count-gave.result; returned = c.give_and_take-own.result.1 }
 
 received : (g : given.Over) (c : goal.After-put_back-2 g) → ReadsHere (seen_with c.self.inside c.in-Some.own) c.args.port c.args.is_pipe
     → AreOf (fixed_in c.self.inside.fabric.now).region (buffers_of c.in-Ok.synced.got.items) × IsThere None (after g c) × IsReceived (seen_with c.self.inside c.in-Some.own) (after g c) c.args.port.0 (told g c)
@@ -101,7 +109,7 @@ received g c k =
       subst (λ (o : OwnState). IsThere None (record s { knows = x; own = o })) back
           (there-so s w c.args.port c.args.is_pipe c.in-Ok.synced k read mid-is c.publish_all.ensures.own ends),
       subst (λ (o : OwnState). IsReceived s (record s { knows = x; own = o }) c.args.port.0 (told g c)) back
-          (received-so s w c.args.port c.args.is_pipe c.in-Ok.synced k read mid-is c.publish_all.ensures.own (told g c) ends c.entry-entry.ensures (c.len.ensures ∙ c.in-Ok.synced.got.ok.0) c.give_and_take-own.ensures.returned),
+          (received-so s w c.args.port c.args.is_pipe c.in-Ok.synced k read mid-is c.publish_all.ensures.own (told g c) ends c.entry-entry.ensures (c.frame_count-gave.ensures ∙ ap (λ (gots : List Got). length (frames_in gots)) c.deref.ensures.value) c.give_and_take-own.ensures.returned),
     )
 
 pub invariant_of-self-2 : goal.invariant_of-self-2

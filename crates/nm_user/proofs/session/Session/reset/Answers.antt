@@ -1,7 +1,7 @@
 use Rattle.std.proofs.Common.{◌≡◌, ◌∙◌, None, Some, refl, ap, sym, subst}
 use Rattle.nm_types.specs.OwnPorts.{OwnState}
 use Rattle.nm_types.specs.OwnSyncs.{own_after_reset}
-use Rattle.nm_port.specs.Own.{refusal_at}
+use Rattle.nm_types.specs.OwnPorts.{refusal_at}
 use Rattle.nm_port.specs.Regions.{SideState}
 use Rattle.vale_fabric.specs.Fabrics.{knowing}
 use Rattle.nm_user.specs.Sessions.{SessionState, IsThere, own_in, session_seen}

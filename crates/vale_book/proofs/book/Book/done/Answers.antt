@@ -8,10 +8,16 @@ use Rattle.nm_region.specs.Regions.{AreOf}
 use Rattle.vale_steps.specs.Granting.{lease_id}
 use Rattle.vale_steps.specs.Offering.{IsFilledIn}
 use Rattle.vale_own.specs.Recorded.{Recorded, standing}
+use Rattle.vale_book.proofs.Standing.{by-ids}
 use Rattle.vale_book.proofs.Moves.{Moves, before, moved, record-moved, had-room}
 use Rattle.vale_book.proofs.Dones.{IsLeaseAt, IsOwed, lease-here, lease-owed, lot-out, lease-old, lease-there, done-moves, done-promised}
 use Rattle.vale_book.proofs.book.Book.done.Goals.{In-Some, After-complete}
 use Rattle.vale_book.proofs.book.Book.done.Goals as goal
+
+pub leased_port-requires : goal.leased_port-requires
+leased_port-requires c =
+    let b = c.self.inside in
+    rw c.deref.ensures.value (by-ids b.pool.buffers b.history.entries b c.self.invariant.stands)
 
 -- the lease stands at the place found, and its lot is owed
 at : (c : In-Some) → IsLeaseAt c.self.inside c.args.lease c.in-Some.place

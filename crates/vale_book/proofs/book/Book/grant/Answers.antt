@@ -9,7 +9,7 @@ use Rattle.vale_entry.specs.World.{Port, open_port}
 use Rattle.vale_entry.specs.Legal.{grant_step}
 use Rattle.vale_book.specs.declared.book.Book.TheInside.{Inside}
 use Rattle.vale_book.proofs.Moves.{before, moved, record-moved, had-room}
-use Rattle.vale_book.proofs.Standing.{IsFound, found-some, not-found}
+use Rattle.vale_book.proofs.Standing.{IsFound, by-ids, found-some, not-found}
 use Rattle.vale_book.proofs.Grants.{IsGrant, IsGranted, Known, known, known-is, known_seen, LeaseTells, GiveTells, grant-by, entry-is, number-new, sizes-fit, counted-there, counts-fit, leases-told, reply-told, offers-taken, left-stand, first-want, give-call, lose-call, shared-by}
 use Rattle.vale_book.proofs.book.Book.grant.Goals as goal
 use Rattle.vale_book.proofs.book.Book.grant.Goals.{After-count, After-lose, After-self, In-Some}
@@ -42,6 +42,11 @@ there c =
     let b = c.self.inside in
     found-some b.pool.buffers b.history.entries b (λ (all : List Port). open_port all c.take_next-want.result.0.to.0) c.in-Some.place c.self.invariant.stands (rw (← c.deref.ensures.value) c.in-Some.ensures.some)
 
+pub offered_port-requires : goal.offered_port-requires
+offered_port-requires c =
+    let b = c.self.inside in
+    rw c.deref.ensures.value (by-ids b.pool.buffers b.history.entries b c.self.invariant.stands)
+
 pub give-granted-requires-clause-new : goal.give-granted-requires-clause-new
 give-granted-requires-clause-new c =
     let f = there (goal.at.give-granted-requires-clause-new c).In-Some in
@@ -49,7 +54,7 @@ give-granted-requires-clause-new c =
 
 pub give-granted-requires-clause-sizes : goal.give-granted-requires-clause-sizes
 give-granted-requires-clause-sizes c =
-    sizes-fit c.self.inside c.entry-origin.result c.session-session.result.0 (wanted c.take_next-want.result.0) (granted (goal.at.give-granted-requires-clause-sizes c).After-self)
+    sizes-fit c.self.inside c.entry-origin.result c.session-session.result.0 (wanted c.take_next-want.result.0) c.self.invariant (granted (goal.at.give-granted-requires-clause-sizes c).After-self)
 
 pub count-requires-clause-there : goal.count-requires-clause-there
 count-requires-clause-there c =

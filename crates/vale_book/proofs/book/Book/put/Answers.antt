@@ -10,6 +10,7 @@ use Rattle.vale_own.specs.Recorded.{Recorded, standing}
 use Rattle.vale_book.proofs.Moves.{Moves, before, kept-on, after-on, room-on}
 use Rattle.vale_book.proofs.ReadMoves.{IsRest}
 use Rattle.vale_book.proofs.PutMoves.{never-missing, IsGone, IsPutting, putting_of, CountsFit, count-items, pipe-known, gone-known, peer-missing, putting-known, gone-moves, gone-stays, gone-full, gone-on, new-here, counts-fit, put_made, put-moves, put-stays, put-full, put-on}
+use Rattle.vale_book.proofs.PutsTold.{fit-parts}
 use Rattle.vale_book.proofs.book.Book.put.Goals as goal
 
 -- ---- the port
@@ -102,6 +103,9 @@ fits c =
 pub put_to_peer-requires-clause-new : goal.put_to_peer-requires-clause-new
 put_to_peer-requires-clause-new c =
     new-here c.self.inside (putting-before c) c.args.pending.now.items (known-before c)
+
+pub put_to_peer-requires-clause-fits : goal.put_to_peer-requires-clause-fits
+put_to_peer-requires-clause-fits c = fit-parts c.args.pending.now.items (known-before c).pipe
 
 pub put_to_peer-requires-clause-own : goal.put_to_peer-requires-clause-own
 put_to_peer-requires-clause-own c = (fits c).own

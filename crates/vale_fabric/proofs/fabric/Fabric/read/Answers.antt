@@ -33,7 +33,7 @@ pub returns-clause-read : goal.returns-clause-read
 returns-clause-read g c =
     let e = c.read-synced.ensures in
     read-on c.args.is_pipe c.args.port (indices_of c.args.back.items) c.requires.may (as-lent c.deref_mut.ensures.value c.take-book.ensures.taken) c.give.ensures.back c.read-synced.result (low-pool c.args.self.now)
-    (acts g (goal.at.returns-clause-read g c).After-read-synced) e.said e.got e.single e.few e.offers
+    (acts g (goal.at.returns-clause-read g c).After-read-synced) e.said e.got e.cut e.few e.offers
 
 pub returns-clause-speaks : goal.returns-clause-speaks
 returns-clause-speaks g c =

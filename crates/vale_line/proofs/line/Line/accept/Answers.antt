@@ -5,7 +5,7 @@ use Rattle.vale_line.specs.declared.got.Got.{Got}
 use Rattle.vale_line.specs.Lines.{LineState, out_of, opened_lot, put_lot, leases_of, lease_of}
 use Rattle.vale_line.specs.Stored.{state_of}
 use Rattle.vale_line.proofs.StoredAfter.{stored-after}
-use Rattle.vale_line.proofs.FrameLemmas.{whole-singles}
+use Rattle.vale_line.proofs.CutLemmas.{cut-singles}
 use Rattle.vale_line.proofs.LotLemmas.{IsLine-put, leases_of-push, leases-completed, opened-done}
 use Rattle.vale_line.proofs.RingLemmas.{few-held}
 use Rattle.vale_line.proofs.line.Line.accept.Goals as goal
@@ -23,7 +23,7 @@ invariant_of-self c =
     let some : 1 ≤ n = search (rules, arith) in
     let few : n ≤ out_of line = subst (λ (l : LineState). n ≤ out_of l) (sym c.self.view_is) c.requires.lent in
     let fresh : is_there id.0 (leases_of line.lots) ≡ false = ap (λ (l : LineState). is_there id.0 (leases_of l.lots)) c.self.view_is ∙ c.requires.new in
-    let is = IsLine-put line id gots (whole-singles gots c.requires.single) c.self.invariant.line some few fresh in
+    let is = IsLine-put line id gots (cut-singles gots c.requires.single c.requires.fits) c.self.invariant.line some few fresh in
     let put : LineState = record line { lots = line.lots ++ put_lot id gots ∷ [] } in
     let after : state_of (record c.self.inside { ring = c.accept.new.self }) ≡ put = c.accept.ensures.line ∙ ap (λ (gs : List Got). record line { lots = line.lots ++ put_lot id gs ∷ [] }) own in
     let count : c.len.result ≡ n = search rules in

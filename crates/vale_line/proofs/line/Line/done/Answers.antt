@@ -2,7 +2,7 @@ use Rattle.std.proofs.Common.{◌≡◌, Some, true, List, length, map, ap, refl
 use Rattle.std.specs.List.{list_any}
 use Rattle.vale_lease.specs.declared.leases.LeaseSlots.{LeaseSlots}
 use Rattle.vale_lease.specs.Leases.{LeaseRing, completed as ring_completed}
-use Rattle.vale_line.specs.Gots.{HoldWholeFrames}
+use Rattle.vale_line.specs.Gots.{IsCut}
 use Rattle.vale_line.specs.Leased.{buffer_count}
 use Rattle.vale_line.proofs.LotLemmas.{IsLine-done, leases-completed, slots-out, lease-out}
 use Rattle.vale_line.specs.Lines.{LineState, slots_out, is_out_at, completed}
@@ -25,7 +25,7 @@ invariant_of-self c =
     let id = c.args.lease.id in
     let gots = c.args.lease.filled in
     let full : buffer_count c.args.lease ≡ length gots = sym c.into_gots.ensures.count ∙ ap length c.into_gots.ensures.gots in
-    let frames : HoldWholeFrames gots = subst HoldWholeFrames c.into_gots.ensures.gots c.into_gots.ensures.whole in
+    let frames : IsCut gots = subst IsCut c.into_gots.ensures.gots c.into_gots.ensures.cut in
     let out : slots_out id lots ≡ Some (length gots) = ap (λ (l : LineState). slots_out id l.lots) c.self.view_is ∙ (c.requires.lot ∙ ap Some full) in
     let is = IsLine-done line id gots frames c.self.invariant.line out in
     let same_id = c.id-id.ensures in

@@ -1,6 +1,7 @@
 use Rattle.std.proofs.Common.{◌≡◌, ◌≤◌, ℕ, List, Option, [], length, subst, ap, sym, ◌∙◌}
 use Rattle.std.proofs.lemmas.List.{length-map}
 use Rattle.std.specs.VecDeque.{deque_capacity}
+use Rattle.nm_types.specs.Limits.{most_ring}
 use Rattle.nm_reach.specs.Fields.{Run, FieldState}
 use Rattle.nm_region.specs.Buffers.{Buffer}
 use Rattle.vale_line.specs.declared.got.Got.{Got}
@@ -21,7 +22,7 @@ returns-clause-ring c =
     let size : f.size ≡ length c.args.cells.items = ap (λ (s : FieldState). s.size) made.field in
     let values : r.values ≡ c.args.cells.items = ap (λ (s : Run (Option Got)). s.values) made.all in
     let few = subst (λ (n : ℕ). 1 ≤ n) (sym size) q.size.0 in
-    first_ring f r c.split_front-given.result c.split_front-given.new.self c.args.lots few (subst (λ (n : ℕ). n ≤ 1024) (sym size) q.size.1)
+    first_ring f r c.split_front-given.result c.split_front-given.new.self c.args.lots few (subst (λ (n : ℕ). n ≤ most_ring) (sym size) q.size.1)
     (ap (λ (s : Run (Option Got)). s.field) made.all ∙ sym (ap (λ (s : FieldState). s.field) made.field)) (ap (λ (s : Run (Option Got)). s.size) made.all ∙ sym size) (ap length values ∙ sym size)
     (ap (λ (s : Run (Option Got)). s.start) made.all) q.lots (subst (λ (n : ℕ). n ≤ deque_capacity c.args.lots) (sym size) q.room)
     (subst AreFull (sym values) q.full) (subst (λ (cs : List (Option Got)). AreBlank (gots_in cs)) (sym values) q.blank)

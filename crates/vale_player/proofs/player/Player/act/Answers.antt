@@ -1,11 +1,11 @@
-use Rattle.std.proofs.Common.{ℕ, ◌≡◌, [], ◌∷◌, List, Ok, replicate, sym, subst}
+use Rattle.std.proofs.Common.{ℕ, ◌≡◌, [], ◌∷◌, List, Ok, IfErr, replicate, sym, subst}
 use Rattle.std.specs.Prelude.{OnOk}
 use Rattle.vale_script.specs.declared.script.Act.TheVariants as acts
 use Rattle.vale_replay.specs.Tasks.{Task, Arrive, ChangeOwn, OpenPort, PutFrame, WatchPort, ReadCounts, ShutPort, FinishPort, played, tasks_of}
 use Rattle.vale_player.specs.Inputs.{records_in}
-use Rattle.vale_player.specs.Players.{PlayerState, DoesLine, with_act}
+use Rattle.vale_player.specs.Players.{PlayerState, DoesLine, Stops, with_act}
 use Rattle.vale_player.proofs.Doing.{does-line}
-use Rattle.vale_player.proofs.PlayerLines.{arrived, changed, change-only, on-rings, single-done, does-as, done-as}
+use Rattle.vale_player.proofs.PlayerLines.{arrived, changed, change-only, on-rings, single-done, does-as, stops-as, done-as}
 use Rattle.vale_player.proofs.player.Player.act.Goals as goal
 
 pub returns-in-Enter-clause-does : goal.returns-in-Enter-clause-does
@@ -71,6 +71,14 @@ returns-in-Play-clause-does g c =
     let play = c.in-Play in
     does-as records p c.play.new.self c.args.act.now (acts.Play play.name play.file play.batch) c.play.result play.is
     (subst (λ (frames : List (List ℕ)). OnOk c.play.result (DoesLine p c.play.new.self (played play.name play.batch frames))) c.records_played.ensures c.play.ensures.does)
+
+pub returns-in-Play-clause-stops : goal.returns-in-Play-clause-stops
+returns-in-Play-clause-stops g c =
+    let records = records_in c.args.inputs.now in
+    let p = c.args.self.now in
+    let play = c.in-Play in
+    stops-as records p c.play.new.self c.args.act.now (acts.Play play.name play.file play.batch) c.play.result play.is
+    (subst (λ (frames : List (List ℕ)). IfErr c.play.result (Stops p c.play.new.self (played play.name play.batch frames))) c.records_played.ensures c.play.ensures.stops)
 
 pub returns-in-Tx-clause-does : goal.returns-in-Tx-clause-does
 returns-in-Tx-clause-does g c =

@@ -45,7 +45,7 @@ loop-left-preserved g c =
     let whole : List Task = replicate c.args.count task in
     let more : List Task = replicate (left - 1) task in
     let leads = leads-next p q c.args.name.now c.args.frame.now c.args.count left c.loop-left-test.true c.loop-left.invariant.leads in
-    let needs : NeedsNone q r task = subst (λ (b : Bool). NeedsNoneOrEnds q r task b) c.in-Ok-true.field-0-test (c.in-Ok-true.ensures.room c.args.frame.now) in
+    let needs : NeedsNone q r task = subst (λ (b : Bool). NeedsNoneOrEnds q r task b) c.in-Ok-true.field-0-test c.in-Ok-true.ensures.room in
     let through : Leads p r whole (task ∷ more) = leads-through p q r whole task more leads needs.stays in
     let parted : Leads p r whole (replicate count task ++ replicate (left - count) task) =
     leads-as p r whole (task ∷ more) (replicate count task ++ replicate (left - count) task) (sym (same-next task left c.loop-left-test.true) ∙ left-parts task left count c.write_copies-left.ensures.most) through in
@@ -60,13 +60,13 @@ returns-in-Ok-false-clause-does g c =
     let name = c.args.name.now in
     let bytes = c.args.frame.now in
     copies-end c.args.self.now c.loop-left.self name bytes c.args.count c.loop-left.left c.loop-left-test.true c.loop-left.invariant.leads c.make_room.new.self
-    (subst (NeedsNoneOrEnds c.loop-left.self c.make_room.new.self (PutFrame name bytes)) c.in-Ok-false.field-0-test (c.in-Ok-false.ensures.room bytes))
+    (subst (NeedsNoneOrEnds c.loop-left.self c.make_room.new.self (PutFrame name bytes)) c.in-Ok-false.field-0-test c.in-Ok-false.ensures.room)
 
 pub returns-in-Err-clause-stops : goal.returns-in-Err-clause-stops
 returns-in-Err-clause-stops g c =
     let bytes = c.args.frame.now in
     copies-stop c.args.self.now c.loop-left.self c.args.name.now bytes c.args.count c.loop-left.left c.loop-left-test.true c.loop-left.invariant.leads c.make_room.new.self
-    c.in-Err.fault c.make_room.ensures.there (c.in-Err.ensures.stops bytes)
+    c.in-Err.fault c.make_room.ensures.there c.in-Err.ensures.stops
 
 pub returns-clause-does : goal.returns-clause-does
 returns-clause-does g c =

@@ -1,12 +1,14 @@
-use Rattle.std.proofs.Common.{◌≡◌, None, option_map, refl, sym, subst, ◌∙◌}
+use Rattle.std.proofs.Common.{ℕ, ◌≡◌, None, option_map, refl, sym, subst, ◌∙◌}
 use Rattle.nm_types.specs.OwnPorts.{port_with_name}
 use Rattle.nm_user.specs.Sessions.{IsThere}
 use Rattle.vale_replay.specs.Tasks.{TakeFrames}
 use Rattle.vale_player.specs.Players.{PlayerState, HasCalled}
+use Rattle.vale_player.specs.Kept.{AreOrLost, HasReceived, kept_received}
 use Rattle.vale_player.proofs.Changes.{id-of}
 use Rattle.vale_player.proofs.PortCalls.{found-port, is-some, passed}
 use Rattle.vale_player.proofs.Leading.{port-at}
 use Rattle.vale_player.proofs.KeptSaves.{received-keeping}
+use Rattle.vale_player.proofs.ReceivedFrames.{has-received}
 use Rattle.vale_player.proofs.KeptPorts.{takes-on, stops-on, still-on}
 use Rattle.vale_player.proofs.player.Player.take.Goals as goal
 
@@ -21,10 +23,22 @@ receive-ended-requires-clause-port g c _ _ =
     let own = c.self.inside.session.own in
     is-some own c.args.name.now c.in-Some.port (found-port own c.args.name.now c.in-Some.port c.self.invariant.there.side.sound (sym c.port_named.ensures ∙ c.in-Some.is))
 
+pub receive-requires : goal.receive-requires
+receive-requires g c =
+    let s = c.self.inside.session in
+    let t = c.receive-ended.new.session in
+    let at = c.in-Some.port.0 in
+    let got = c.receive-ended.result.0 in
+    subst (λ (tail : ℕ). HasReceived t.own at tail got) (sym c.rx_tail-tail.ensures) (has-received s t at got c.self.invariant.there c.receive-ended.ensures.saves)
+
 pub invariant_of-self : goal.invariant_of-self
 invariant_of-self g c =
-    received-keeping c.self.inside.session c.receive-ended.new.session c.in-Some.port.0 c.receive-ended.result.0 c.self.inside.saves.items c.self.inside.kept _
-    c.receive-ended.ensures.there c.receive-ended.ensures.saves c.receive.ensures c.self.invariant
+    let s = c.self.inside.session in
+    let t = c.receive-ended.new.session in
+    let at = c.in-Some.port.0 in
+    let got = c.receive-ended.result.0 in
+    let kept = subst (λ (tail : ℕ). AreOrLost (option_map (kept_received t.own at tail got) c.self.inside.kept) c.receive.new.self) c.rx_tail-tail.ensures c.receive.ensures in
+    received-keeping s t at got c.self.inside.saves.items c.self.inside.kept c.receive.new.self c.receive-ended.ensures.there c.receive-ended.ensures.saves kept c.self.invariant
 
 pub returns : goal.returns
 returns g c =

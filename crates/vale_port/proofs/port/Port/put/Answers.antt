@@ -44,7 +44,7 @@ returns-clause-seat c = λ seat session frames is bytes.
     let was : IsSeatOf seat p = subst (IsSeatOf seat) (sym c.self.view_is) is in
     let s = step c in
     seat-taken seat p c.args.id session frames c.args.pending.now.items c.min-count.result (length c.give.new.back.items) c.give.new.back.items c.give.new.taken.items
-    c.accept.new.self was c.lend-lent.ensures.was c.requires.single s.takes s.line bytes
+    c.accept.new.self was c.lend-lent.ensures.was c.requires.single c.requires.fits s.takes s.line bytes
 
 pub returns-clause-line : goal.returns-clause-line
 returns-clause-line c =

@@ -1,0 +1,171 @@
+use crate::memory;
+use anyhow::{Result, anyhow};
+use nm_types::{
+    Batch, LeaseId, Limits, MAX_BATCH, MAX_POOL, MAX_SWITCH_PORTS, MIN_RING, Name, NoMemory,
+    PortId, SessionId,
+};
+use std::alloc::{Alloc, Global};
+use std::fs::Files;
+use std::io::Print;
+use std::time::{Clock, Instant};
+use vale_drive::Drive;
+use vale_entry::{Ask, Dest, Reply};
+
+/// The ports of a switch, and the frames that one of them sends at once.
+#[derive(Clone, Copy)]
+struct Shape {
+    ports: u32,
+    frames: u32,
+}
+
+/// The ports that a switch may have.
+const PORTS: u32 = MAX_SWITCH_PORTS as u32;
+
+/// The frames that may be sent at once.
+const FRAMES: u32 = MAX_BATCH as u32;
+
+const FEW: [Shape; 1] = [Shape {
+    ports: 4,
+    frames: 64,
+}];
+
+/// A quarter of the ports or of the frames, half of the ports, and all of both.
+const MANY: [Shape; 4] = [
+    Shape {
+        ports: PORTS / 4,
+        frames: FRAMES,
+    },
+    Shape {
+        ports: PORTS,
+        frames: FRAMES / 4,
+    },
+    Shape {
+        ports: PORTS / 2,
+        frames: FRAMES,
+    },
+    Shape {
+        ports: PORTS,
+        frames: FRAMES,
+    },
+];
+
+/// How many frames the ports were given, and how many found no room.
+#[derive(Clone, Copy)]
+struct Shares {
+    given: u128,
+    full: u128,
+}
+
+/// So many broadcasts of 60 bytes.
+fn batch(alloc: Global, frames: u32) -> Result<Batch, NoMemory> {
+    let mut frame = [0; 60];
+    frame[..6].copy_from_slice(&[0xff; 6]);
+    frame[6] = 2;
+    let mut batch = Batch::new(alloc);
+    for _ in 0..frames {
+        batch.push(&frame, false)?;
+    }
+    Ok(batch)
+}
+
+/// Makes an ask.
+fn made(drive: &mut Drive, ask: &Ask) -> Result<Reply> {
+    match drive.apply(ask) {
+        Ok(Some(reply)) => Ok(reply),
+        Ok(None) => Err(anyhow!("an ask was not enabled")),
+        Err(fault) => Err(anyhow!("{fault}")),
+    }
+}
+
+/// A session comes and opens the ports. The pool has buffers for receive rings that hold up to a
+/// quarter of the frames.
+fn open_ports(alloc: Global, drive: &mut Drive, shape: Shape) -> Result<()> {
+    drop(made(drive, &Ask::Enter { user: 1 })?);
+    for port in 0..shape.ports {
+        let text = format!(in alloc; "vale0:{port}")?;
+        let Ok(name) = Name::parse(&text) else {
+            return Err(anyhow!("a port has no name"));
+        };
+        let ask = Ask::Open {
+            session: SessionId(1),
+            name,
+            tx: MIN_RING,
+            rx: shape.frames / 4,
+            extra: 0,
+        };
+        drop(made(drive, &ask)?);
+    }
+    Ok(())
+}
+
+/// Grants one port's offer, and completes what it is given. Answers how many frames that were, and
+/// how many found no room.
+fn share(drive: &mut Drive, origin: u32, to: PortId) -> Result<(u32, u32)> {
+    let reply = made(drive, &Ask::Grant { origin, to })?;
+    let lease = LeaseId(drive.history().len());
+    let Reply::Shared { given, full, .. } = reply else {
+        return Err(anyhow!("a grant was answered otherwise"));
+    };
+    if given > 0 {
+        drop(made(drive, &Ask::Done { lease })?);
+    }
+    Ok((given, full))
+}
+
+/// Grants and completes all offers of the last entry.
+fn share_all(drive: &mut Drive, dests: &[Dest]) -> Result<Shares> {
+    let origin = drive.history().len();
+    let mut all = Shares { given: 0, full: 0 };
+    for dest in dests {
+        let (given, full) = share(drive, origin, dest.to)?;
+        all.given += u128::from(given);
+        all.full += u128::from(full);
+    }
+    Ok(all)
+}
+
+/// The first port sends frames, which each other port is granted.
+fn broadcast(drive: &mut Drive, frames: Batch) -> Result<Shares> {
+    let port = PortId(2);
+    let Reply::Offered { to, .. } = made(drive, &Ask::Send { port, frames })? else {
+        return Err(anyhow!("a send was answered otherwise"));
+    };
+    share_all(drive, to.as_slice())
+}
+
+/// What became of the frames, and how many nanoseconds it took from the send to the last completion.
+fn play<R: Clock>(
+    rt: &R,
+    alloc: Global,
+    drive: &mut Drive,
+    shape: Shape,
+) -> Result<(Shares, u128)> {
+    open_ports(alloc, drive, shape)?;
+    let frames = batch(alloc, shape.frames)?;
+    let start = Instant::now(rt)?;
+    let shares = broadcast(drive, frames)?;
+    Ok((shares, start.elapsed(rt)?.as_nanos()))
+}
+
+/// Sends one batch of broadcasts of 60 bytes to all other ports of a switch, grants and completes
+/// them, and prints what became of them, or, if `is_timed`, does so with as many ports and frames as
+/// there may be, and also prints nanoseconds and the most memory so far.
+pub fn run<R: Print + Clock + Files + Alloc>(rt: &R, alloc: Global, is_timed: bool) -> Result<()> {
+    let shapes: &[Shape] = if is_timed { &MANY } else { &FEW };
+    for shape in shapes {
+        let Shape { ports, frames } = *shape;
+        let mut drive = Drive::new(alloc, MAX_POOL, Limits::VERSION_2)?;
+        let played = play(rt, alloc, &mut drive, *shape);
+        drop(drive.close());
+        let (Shares { given, full }, nanos) = played?;
+        println!(rt; "broadcast: {frames} frames among {ports} ports, {given} given, {full} full")?;
+        if is_timed {
+            let wants = (u64::from(ports) * u64::from(frames)).max(1);
+            let (each, peak) = (nanos / u128::from(wants), memory::peak(rt)?);
+            println!(rt;
+                "broadcast: {nanos} ns, {each} for each frame and port, at most {peak} kB so far"
+            )?;
+        }
+    }
+    Ok(())
+}

@@ -1,0 +1,6 @@
+use Rattle.std.proofs.Common.{◌≡◌, ◌-◌}
+use Rattle.nm_types.specs.OwnEdits.{with_slots_forwarded}
+use Rattle.nm_own.proofs.own.OwnSide.forward_frame.Given as goal
+
+abbrev pub invariant-loop : goal.invariant-loop
+invariant-loop l = (with_slots_forwarded (l.count - l.counter) l.from.0 l.to.0 l.self.own ≡ with_slots_forwarded l.count l.from.0 l.to.0 l.fn.self.own) × (l.self.regions ≡ l.fn.self.regions)

@@ -1,0 +1,20 @@
+use Rattle.std.proofs.Common.{◌≡◌, ◌∙◌, Some, None, refl, sym, ap}
+use Rattle.nm_types.specs.Slots.{SlotState}
+use Rattle.nm_port.specs.Own.{slots_at}
+use Rattle.nm_port.proofs.Checked.{ring_found, ring_not_found, side_found}
+use Rattle.nm_own.proofs.Written.{front_slot_seen}
+use Rattle.nm_own.proofs.own.OwnSide.front_slot.Goals as goal
+
+pub returns-in-Some : goal.returns-in-Some
+returns-in-Some c =
+    let ports = c.self.inside.ports.items in
+    let there : Some c.in-Some.ring.now ≡ slots_at c.args.side ports c.args.port.0 = rw (c.in-Some.is, c.deref.ensures.value) at c.ring_at.ensures in
+    let side = side_found ports c.args.side c.args.port c.in-Some.ring.now c.self.invariant.sided (sym there) in
+    rw (← c.self.view_is, ring_found c.self.inside.hold ports c.args.side c.args.port c.in-Some.ring.now (sym there))
+    (ap (λ (slot : SlotState). Some slot) c.head_slot.ensures ∙ front_slot_seen c.self.inside.hold c.args.port c.args.side c.in-Some.ring.now side)
+
+pub returns-in-None : goal.returns-in-None
+returns-in-None c =
+    let ports = c.self.inside.ports.items in
+    let none : None ≡ slots_at c.args.side ports c.args.port.0 = rw (c.in-None.is, c.deref.ensures.value) at c.ring_at.ensures in
+    rw (← c.self.view_is, ring_not_found c.self.inside.hold ports c.args.side c.args.port.0 (sym none)) refl

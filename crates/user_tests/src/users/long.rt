@@ -1,0 +1,224 @@
+//! Frames of several slots go to a port, and to a monitor of what is sent or of what is received.
+ghost use Rattle.nm_user.specs.Words.{IsPassIn};
+
+use super::lines::play;
+use super::{Sizes, User, leave, three_come, watch};
+use nm_io::NoGate;
+use nm_types::{MAX_FRAME_BYTES, PortId, Side, Sides};
+use nm_user::{Sent, Session};
+use std::alloc::{AllocError, Global};
+use std::process::Abort;
+use std::sync::Wait;
+use std::test::Fail;
+use vale_fabric::{Fabric, Pass};
+
+/// Frames, by their lengths; the slots of the ring of the port to which they go, and of its monitor's;
+/// and what becomes of them.
+#[derive(Clone, Copy)]
+struct Row {
+    lens: &'static [usize],
+    rx: u32,
+    monitor: u32,
+    /// How many of the frames the port is given, and how many the monitor.
+    given: usize,
+    watched: usize,
+    /// The lengths and the flags of the port's first receive slots.
+    slots: &'static [(u16, u16)],
+    /// How many slots went, and how many of their frames were given and found no room, where the
+    /// monitor watches the sender.
+    told: (u32, u32, u32),
+    /// The same where it watches the port to which they go.
+    told_of_one: (u32, u32, u32),
+}
+
+const ROWS: [Row; 5] = [
+    // A frame of three slots, and one of five.
+    Row {
+        lens: &[5000, 9000],
+        rx: 9,
+        monitor: 9,
+        given: 2,
+        watched: 2,
+        slots: &[(2048, 544), (2048, 288), (904, 0), (2048, 1056)],
+        told: (8, 4, 0),
+        told_of_one: (8, 2, 0),
+    },
+    // A frame of two slots between two of one.
+    Row {
+        lens: &[2048, 2049, 14],
+        rx: 5,
+        monitor: 5,
+        given: 3,
+        watched: 3,
+        slots: &[(2048, 0), (2048, 288), (1, 0), (14, 0)],
+        told: (4, 6, 0),
+        told_of_one: (4, 3, 0),
+    },
+    // The longest, which never fits in a ring of 64 slots.
+    Row {
+        lens: &[MAX_FRAME_BYTES],
+        rx: 65,
+        monitor: 64,
+        given: 1,
+        watched: 0,
+        slots: &[(2048, 16160), (2048, 15904)],
+        told: (64, 1, 1),
+        told_of_one: (64, 1, 0),
+    },
+    // The first two fit in five slots, and the first in three.
+    Row {
+        lens: &[4096, 4097, 14],
+        rx: 6,
+        monitor: 4,
+        given: 2,
+        watched: 1,
+        slots: &[(2048, 288), (2048, 0), (2048, 544), (2048, 288), (1, 0)],
+        told: (6, 3, 3),
+        told_of_one: (6, 2, 1),
+    },
+    // The first does not fit, and the other is behind it.
+    Row {
+        lens: &[4097, 14],
+        rx: 3,
+        monitor: 3,
+        given: 0,
+        watched: 0,
+        slots: &[],
+        told: (4, 0, 4),
+        told_of_one: (4, 0, 2),
+    },
+];
+
+/// A ring of each kind, without extra buffers.
+fn sizes(tx: u32, rx: u32) -> Sizes {
+    Sizes { tx, rx, extra: 0 }
+}
+
+/// A frame of so many bytes, no two parts of which are alike. It goes to a station that no switch
+/// knows.
+fn frame(alloc: Global, len: usize) -> Result<Vec<u8>, AllocError> {
+    let mut bytes = Vec::new(alloc);
+    for at in 0..len {
+        bytes.push((at % 251) as u8)?;
+    }
+    Ok(bytes)
+}
+
+/// A frame is put by one call.
+fn put<R: AllocGlobal + Abort>(rt: &R, session: &mut Session, port: PortId, len: usize) {
+    let Ok(bytes) = frame(rt.alloc(), len) else {
+        panic!(rt; "out of memory")
+    };
+    assert!(rt; bytes.len() <= MAX_FRAME_BYTES);
+    assert!(rt; session.has_room(port, bytes.len()));
+    session.put_frame(port, &bytes);
+}
+
+/// The frames are put, and go on together.
+fn send<R: AllocGlobal + Abort + Wait>(rt: &R, user: &mut User, lens: &[usize]) -> Sent {
+    for len in lens {
+        put(rt, &mut user.session, user.port, *len);
+    }
+    assert!(rt; user.session.ring(user.port, Side::Tx).is_some());
+    match user.session.tx_sync(rt, user.port, &NoGate) {
+        Ok(sent) => sent,
+        Err(fault) => panic!(rt; "{fault:?}"),
+    }
+}
+
+/// These frames come, and are read by one call.
+fn receive<R: AllocGlobal + Abort + Wait>(rt: &R, user: &mut User, lens: &[usize]) {
+    assert!(rt; user.session.has_port(user.port));
+    match user.session.rx_sync(rt, user.port, &NoGate) {
+        Ok(received) => assert_eq!(rt; received.gave as usize, lens.len()),
+        Err(fault) => panic!(rt; "{fault:?}"),
+    }
+    let Ok(frames) = user.session.frames_from(user.port, 0) else {
+        panic!(rt; "out of memory")
+    };
+    assert!(rt; frames.len() == lens.len());
+    for i in 0..lens.len() {
+        match frame(rt.alloc(), lens[i]) {
+            Ok(bytes) => assert!(rt; frames.frame(i) == bytes.as_slice()),
+            Err(_) => panic!(rt; "out of memory"),
+        }
+    }
+}
+
+/// A port's receive slot has this length and these flags.
+fn is_slot(session: &Session, port: PortId, at: u32, slot: (u16, u16)) -> bool {
+    match session.slot(port, Side::Rx, at) {
+        Some(found) => (found.len, found.flags) == slot,
+        None => false,
+    }
+}
+
+/// Users come with a port of a switch, another one, and a monitor of one of them.
+fn watched<'f, R: AllocGlobal + Abort + Wait>(
+    rt: &R,
+    fabric: &'f Fabric,
+    pass: Pass,
+    row: &Row,
+    target: (&str, Sides),
+) -> (User<'f>, User<'f>, User<'f>)
+    requires { IsPassIn fabric.now pass }
+{
+    let ports = [
+        ("vale0:a", sizes(65, 2)),
+        ("vale0:b", sizes(2, row.rx)),
+        ("mon0", sizes(0, row.monitor)),
+    ];
+    let (first, second, mut third) = three_come(rt, fabric, pass, ports);
+    let monitor = third.port;
+    watch(rt, &mut third.session, monitor, target);
+    (first, second, third)
+}
+
+/// The frames are sent, received and watched.
+fn send_and_watch<R: AllocGlobal + Abort + Wait>(
+    rt: &R,
+    fabric: &Fabric,
+    pass: Pass,
+    row: &Row,
+    target: (&str, Sides),
+) -> Sent
+    requires { IsPassIn fabric.now pass }
+{
+    let (mut first, mut second, mut third) = watched(rt, fabric, pass, row, target);
+    let sent = send(rt, &mut first, row.lens);
+    receive(rt, &mut second, &row.lens[..row.lens.len().min(row.given)]);
+    receive(rt, &mut third, &row.lens[..row.lens.len().min(row.watched)]);
+    for (at, slot) in row.slots.iter().enumerate() {
+        let at = u32::try_from(at).unwrap_or(u32::MAX);
+        assert!(rt;
+            is_slot(&second.session, second.port, at, *slot),
+            "slot {at}"
+        );
+    }
+    drop(leave(rt, first));
+    drop(leave(rt, second));
+    drop(leave(rt, third));
+    sent
+}
+
+fn is_told(rt: &impl Abort, sent: Sent, told: (u32, u32, u32)) {
+    assert_eq!(rt; (sent.pushed, sent.given, sent.full), told);
+}
+
+#[test]
+fn frames_of_several_slots_are_sent_and_watched(rt: HostRuntime) -> Result<(), Fail> {
+    let (sender, receiver) = (("vale0:a", Sides::T), ("vale0:b", Sides::R));
+    for row in ROWS {
+        let (sent, _) = play(
+            &rt,
+            |fabric, pass| send_and_watch(&rt, fabric, pass, &row, sender),
+        )?;
+        is_told(&rt, sent, row.told);
+        let (sent, _) = play(
+            &rt,
+            |fabric, pass| send_and_watch(&rt, fabric, pass, &row, receiver),
+        )?;
+        is_told(&rt, sent, row.told_of_one);
+    }
+    Ok(())
+}

@@ -1,0 +1,10 @@
+use Rattle.std.proofs.Common.{sym, ◌∙◌, subst}
+use Rattle.vale_port.specs.Ports.{IsSeatOf}
+use Rattle.vale_port.specs.Stored.{state_of}
+use Rattle.vale_port.proofs.ReadyTies.{sizes-ready}
+use Rattle.vale_port.proofs.port.Port.ready_sizes.Goals as goal
+
+pub returns : goal.returns
+returns c = λ seat is.
+    let was : IsSeatOf seat (state_of c.self.inside) = subst (IsSeatOf seat) (sym c.self.view_is) is in
+    c.ready_sizes.ensures ∙ sizes-ready seat (state_of c.self.inside) was

@@ -1,0 +1,15 @@
+use Rattle.std.proofs.Common.{◌≡◌, ◌+◌, ◌/◌, ◌∷◌, decimal, sym, subst, ℕ, arith, rules}
+use Rattle.std.specs.Simd.Lanes.{put_chunk}
+use Rattle.vale_text.specs.Placed.{Placed}
+use Rattle.vale_text.proofs.Hundreds.{placed-heads, placed-over}
+use Rattle.vale_text.proofs.numerals.place_hundreds.Goals as goal
+
+pub returns-then-mark-ne44 : goal.returns-then-mark-ne44
+returns-then-mark-ne44 c =
+    placed-over c.args.mark (omega (arith, c.requires.room)) (placed-heads c.args.buf.now c.args.hundreds.text c.args.at c.args.hundreds.from c.requires.hundreds c.requires.room)
+
+pub returns-else-mark-ne44 : goal.returns-else-mark-ne44
+returns-else-mark-ne44 c =
+    let comma : c.args.mark ≡ 44 = search rules in
+    subst (λ (m : ℕ). Placed c.args.buf.now (put_chunk c.args.at c.args.buf.now c.args.hundreds.text) c.args.at (m ∷ decimal (c.args.hundreds.from / 100)) (c.args.at + 3)) (sym comma)
+    (placed-heads c.args.buf.now c.args.hundreds.text c.args.at c.args.hundreds.from c.requires.hundreds c.requires.room)
