@@ -1,5 +1,5 @@
 //! Numbers in decimal digits. Most numbers of a transcript are below 10,000.
-ghost use Rattle.std.specs.Prelude.{◌≡◌, ◌≤◌, ◌<◌, ◌/◌, ◌%◌, ◌+◌, ◌∷◌, [], length, decimal, IsTrue};
+ghost use Rattle.std.specs.Prelude.{◌≡◌, ◌≤◌, ◌<◌, ◌*◌, ◌/◌, ◌%◌, ◌^◌, ◌+◌, ◌-◌, ◌∷◌, [], length, decimal};
 ghost use Rattle.vale_text.specs.Pieces.{behind};
 ghost use Rattle.vale_text.specs.Placed.{Placed, PlacedFew, AreHundreds};
 
@@ -116,46 +116,80 @@ pub(crate) fn place_number(buf: &mut [u8], at: usize, number: u64) -> usize
     place_large(buf, at, number)
 }
 
-/// The hundreds below 100 behind a comma, four bytes each.
-static HEADS: [u8; 400] =
-    *b",00 ,01 ,02 ,03 ,04 ,05 ,06 ,07 ,08 ,09 ,10 ,11 ,12 ,13 ,14 ,15 ,16 ,17 ,18 ,19 ,20 ,21 ,22 ,23 ,24 ,25 ,26 ,27 ,28 ,29 ,30 ,31 ,32 ,33 ,34 ,35 ,36 ,37 ,38 ,39 ,40 ,41 ,42 ,43 ,44 ,45 ,46 ,47 ,48 ,49 ,50 ,51 ,52 ,53 ,54 ,55 ,56 ,57 ,58 ,59 ,60 ,61 ,62 ,63 ,64 ,65 ,66 ,67 ,68 ,69 ,70 ,71 ,72 ,73 ,74 ,75 ,76 ,77 ,78 ,79 ,80 ,81 ,82 ,83 ,84 ,85 ,86 ,87 ,88 ,89 ,90 ,91 ,92 ,93 ,94 ,95 ,96 ,97 ,98 ,99 ";
+/// The hundreds below 100 behind a comma, four bytes each: the last tells how long a number with them is,
+/// comma and all.
+static HEADS: [u8; 412] =
+    *b",0 \x04,1 \x04,2 \x04,3 \x04,4 \x04,5 \x04,6 \x04,7 \x04,8 \x04,9 \x04,10\x05,11\x05,12\x05,13\x05,14\x05,15\x05,16\x05,17\x05,18\x05,19\x05,20\x05,21\x05,22\x05,23\x05,24\x05,25\x05,26\x05,27\x05,28\x05,29\x05,30\x05,31\x05,32\x05,33\x05,34\x05,35\x05,36\x05,37\x05,38\x05,39\x05,40\x05,41\x05,42\x05,43\x05,44\x05,45\x05,46\x05,47\x05,48\x05,49\x05,50\x05,51\x05,52\x05,53\x05,54\x05,55\x05,56\x05,57\x05,58\x05,59\x05,60\x05,61\x05,62\x05,63\x05,64\x05,65\x05,66\x05,67\x05,68\x05,69\x05,70\x05,71\x05,72\x05,73\x05,74\x05,75\x05,76\x05,77\x05,78\x05,79\x05,80\x05,81\x05,82\x05,83\x05,84\x05,85\x05,86\x05,87\x05,88\x05,89\x05,90\x05,91\x05,92\x05,93\x05,94\x05,95\x05,96\x05,97\x05,98\x05,99\x05            ";
 
-/// The first two of four digits, and the least number that has them.
+/// The least of the numbers that have the same digits but for the last two, a comma and the digits that
+/// they share, and how long each of them is behind a comma.
 #[derive(Clone, Copy)]
 pub(crate) struct Hundreds {
     from: u64,
-    text: u8x4,
+    text: u8x16,
+    len: usize,
 }
 
-/// The hundreds of a number of four digits.
+/// The hundreds of numbers from 10,000 on.
 #[inline(always)]
-pub(crate) fn hundreds_of(number: u64) -> Hundreds
-    requires { (1000 ≤ number) × (number < 10000) }
-    ensures are { AreHundreds result.from result.text }
-    ensures own { (result.from ≤ number) × (number < result.from + 100) }
+fn far_hundreds(high: u64) -> Hundreds
+    requires { (100 ≤ high) × (high * 100 < 2 ^ 32) }
+    ensures are { AreHundreds result.from result.text result.len }
+    ensures own { result.from ≡ high * 100 }
 {
-    let high = number / 100;
+    let mut text = [b','; 24];
+    let end = place_number(&mut text, 1, high);
     Hundreds {
         from: high * 100,
-        text: u8x4::from_slice(&HEADS[high as usize * 4..]),
+        text: u8x16::from_slice(&text),
+        len: end + 2,
     }
 }
 
-/// Tells whether a number has four digits with these hundreds.
+/// The hundreds of numbers below 10,000.
 #[inline(always)]
-fn shares(hundreds: Hundreds, number: u64) -> bool
-    requires { AreHundreds hundreds.from hundreds.text }
-    ensures { IsTrue result → (hundreds.from ≤ number) × (number < hundreds.from + 100) }
+fn near_hundreds(high: u64) -> Hundreds
+    requires { (0 < high) × (high < 100) }
+    ensures are { AreHundreds result.from result.text result.len }
+    ensures own { result.from ≡ high * 100 }
 {
-    number.wrapping_sub(hundreds.from) < 100
+    let at = high as usize * 4;
+    Hundreds {
+        from: high * 100,
+        text: u8x16::from_slice(&HEADS[at..]),
+        len: HEADS[at + 3] as usize,
+    }
 }
 
-/// Writes hundreds behind a mark. The byte behind them may change.
+/// The hundreds of a number.
+#[inline(always)]
+pub(crate) fn hundreds_of(number: u64) -> Hundreds
+    requires { (100 ≤ number) × (number < 2 ^ 32) }
+    ensures are { AreHundreds result.from result.text result.len }
+    ensures own { (result.from ≤ number) × (number < result.from + 100) }
+{
+    let high = number / 100;
+    if high < 100 {
+        return near_hundreds(high);
+    }
+    far_hundreds(high)
+}
+
+/// How far a number is above hundreds: below 100 if it has them.
+#[inline(always)]
+fn above(hundreds: Hundreds, number: u64) -> u64
+    requires { AreHundreds hundreds.from hundreds.text hundreds.len }
+    ensures { result < 100 → number ≡ hundreds.from + result }
+{
+    number.wrapping_sub(hundreds.from)
+}
+
+/// Writes hundreds behind a mark. The bytes behind them may change.
 #[inline(always)]
 fn place_hundreds(buf: &mut [u8], at: usize, mark: u8, hundreds: Hundreds)
-    requires room { at + 4 ≤ length buf.old }
-    requires hundreds { AreHundreds hundreds.from hundreds.text }
-    ensures { Placed buf.old buf.new at (behind mark decimal (hundreds.from / 100)) (at + 3) }
+    requires room { at + 16 ≤ length buf.old }
+    requires hundreds { AreHundreds hundreds.from hundreds.text hundreds.len }
+    ensures { Placed buf.old buf.new at (behind mark decimal (hundreds.from / 100)) (at + (hundreds.len - 2)) }
 {
     hundreds.text.copy_to_slice(&mut buf[at..]);
     if mark != b',' {
@@ -165,16 +199,17 @@ fn place_hundreds(buf: &mut [u8], at: usize, mark: u8, hundreds: Hundreds)
 
 /// Writes a number behind a mark by the hundreds that it has, and returns where it ends.
 #[inline(always)]
-fn place_shared(buf: &mut [u8], at: usize, mark: u8, hundreds: Hundreds, number: u64) -> usize
-    requires room { at + 5 ≤ length buf.old }
-    requires hundreds { AreHundreds hundreds.from hundreds.text }
-    requires shares { (hundreds.from ≤ number) × (number < hundreds.from + 100) }
-    ensures placed { Placed buf.old buf.new at (behind mark decimal number) result }
-    ensures within { result ≤ at + 5 }
+fn place_shared(buf: &mut [u8], at: usize, mark: u8, hundreds: Hundreds, low: u64) -> usize
+    requires room { at + 21 ≤ length buf.old }
+    requires hundreds { AreHundreds hundreds.from hundreds.text hundreds.len }
+    requires low { low < 100 }
+    ensures placed { Placed buf.old buf.new at (behind mark decimal (hundreds.from + low)) result }
+    ensures within { result ≤ at + 21 }
 {
     place_hundreds(buf, at, mark, hundreds);
-    place_pair(buf, at + 3, number - hundreds.from);
-    at + 5
+    let end = at + hundreds.len;
+    place_pair(buf, end - 2, low);
+    end
 }
 
 /// Writes a number behind a mark, and returns where its digits end, and hundreds that the next number
@@ -188,18 +223,20 @@ pub(crate) fn place_next(
     number: u64,
 ) -> (usize, Hundreds)
     requires room { at + 21 ≤ length buf.old }
-    requires hundreds { AreHundreds hundreds.from hundreds.text }
+    requires hundreds { AreHundreds hundreds.from hundreds.text hundreds.len }
+    requires fits { number < 2 ^ 32 }
     ensures placed { Placed buf.old buf.new at (behind mark decimal number) result.0 }
     ensures within { result.0 ≤ at + 21 }
-    ensures hundreds { AreHundreds result.1.from result.1.text }
+    ensures hundreds { AreHundreds result.1.from result.1.text result.1.len }
 {
-    let own = if shares(hundreds, number) {
-        hundreds
-    } else if 1000 <= number && number < 10_000 {
-        hundreds_of(number)
-    } else {
+    let low = above(hundreds, number);
+    if low < 100 {
+        return (place_shared(buf, at, mark, hundreds, low), hundreds);
+    }
+    if number < 100 {
         buf[at] = mark;
-        return (place_number(buf, at + 1, number), hundreds);
-    };
-    (place_shared(buf, at, mark, own, number), own)
+        return (place_first(buf, at + 1, number), hundreds);
+    }
+    let own = hundreds_of(number);
+    (place_shared(buf, at, mark, own, number - own.from), own)
 }

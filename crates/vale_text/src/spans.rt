@@ -1,5 +1,5 @@
 //! The spans of a list of buffers: neighbours are written by the first and the last of them.
-ghost use Rattle.std.specs.Prelude.{◌≡◌, ◌<◌, ◌≤◌, ◌+◌, ◌-◌, ◌*◌, ◌∷◌, [], length, drop, get_or, IfSome};
+ghost use Rattle.std.specs.Prelude.{◌≡◌, ◌<◌, ◌≤◌, ◌+◌, ◌-◌, ◌*◌, ◌^◌, ◌∷◌, [], length, drop, get_or, IfSome};
 ghost use Rattle.std.specs.Option.{IfNone};
 ghost use Rattle.vale_entry.specs.Spans.{spans_in};
 ghost use Rattle.vale_text.specs.Placed.{AreHundreds};
@@ -63,7 +63,7 @@ fn run_end(numbers: &[u32], k: usize, first: u64) -> (usize, u64)
     ensures run { IsRun (drop k numbers.now) first (result.0 - k) }
     ensures last { result.1 ≡ first + (result.0 - k - 1) }
     ensures within { (k + 1 < result.0) × (result.0 ≤ length numbers.now) }
-    ensures later { first < result.1 }
+    ensures later { (first < result.1) × (result.1 < 2 ^ 32) }
 {
     let (mut end, mut last) = (k + 2, first + 1);
     while end < numbers.len() {
@@ -88,12 +88,12 @@ fn place_span(
     k: usize,
 ) -> (usize, Hundreds, usize)
     requires room { at + 42 ≤ length buf.old }
-    requires hundreds { AreHundreds hundreds.from hundreds.text }
+    requires hundreds { AreHundreds hundreds.from hundreds.text hundreds.len }
     requires inside { k + 1 < length numbers.now }
     ensures placed { ArePlaced buf.old buf.new at result.0 (drop k numbers.now) (drop result.2 numbers.now) }
     ensures within { result.0 + 21 * k ≤ at + 21 * result.2 }
     ensures room { result.0 ≤ at + 42 }
-    ensures hundreds { AreHundreds result.1.from result.1.text }
+    ensures hundreds { AreHundreds result.1.from result.1.text result.1.len }
     ensures further { (k < result.2) × (result.2 ≤ length numbers.now) }
 {
     let first = numbers[k] as u64;
@@ -114,7 +114,7 @@ fn place_many(buf: &mut [u8], at: usize, numbers: &[u32], count: usize) -> (usiz
     requires inside { count < length numbers.now }
     ensures placed { ArePlaced buf.old buf.new at result.0 numbers.now (drop result.2 numbers.now) }
     ensures within { (result.0 ≤ at + 21 * result.2) × (result.0 ≤ length buf.old) }
-    ensures hundreds { AreHundreds result.1.from result.1.text }
+    ensures hundreds { AreHundreds result.1.from result.1.text result.1.len }
     ensures further { (count ≤ result.2) × (result.2 ≤ length numbers.now) }
 {
     let (mut end, mut hundreds, mut done) = (at, hundreds_of(LEAST), 0);

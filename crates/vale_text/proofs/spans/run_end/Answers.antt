@@ -1,4 +1,4 @@
-use Rattle.std.proofs.Common.{◌≡◌, ◌+◌, ◌-◌, ◌<◌, length, get_or, ◌∙◌, arith, rules}
+use Rattle.std.proofs.Common.{◌≡◌, ◌+◌, ◌<◌, length, get_or, ◌∙◌, arith, rules}
 use Rattle.vale_text.proofs.Runs.{run-on}
 use Rattle.vale_text.proofs.spans.run_end.Goals as goal
 

@@ -1,0 +1,5 @@
+use Rattle.vale_text.proofs.Hundreds.{near-are}
+use Rattle.vale_text.proofs.numerals.near_hundreds.Goals as goal
+
+pub returns-clause-are : goal.returns-clause-are
+returns-clause-are c = near-are c.args.high c.requires.0 c.requires.1
