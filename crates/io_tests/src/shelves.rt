@@ -5,6 +5,8 @@ use nm_io::{
     Shelf, Sink, Stage, StdSink, Text, append_all, put_all, put_page, put_text, read_all,
 };
 use std::io::ErrorKind;
+use std::process::Abort;
+use std::rt::Files;
 use std::test::Fail;
 use std::{fs, io};
 
@@ -22,19 +24,57 @@ fn memory_sink_fails_where_told(rt: HostRuntime) -> Result<(), Fail> {
     Ok(())
 }
 
+/// A call of a shelf with its answer: what is read or how many bytes are
+/// appended, and nothing where it fails.
+#[derive(Clone, Copy)]
+enum Call {
+    Read(&'static str, u64, Option<&'static [u8]>),
+    Append(&'static str, &'static [u8], Option<usize>),
+}
+
+/// Makes a call, which is answered so. What is read goes to this room.
+fn assert_call(rt: &impl Abort, shelf: &mut impl Shelf, room: &mut [u8], call: Call) {
+    match call {
+        Call::Read(name, at, wanted) => match shelf.read(name, at, room) {
+            Ok(count) => assert!(rt; wanted == Some(&room[..count]), "{name} from {at}"),
+            Err(Failed) => assert!(rt; wanted.is_none(), "{name} from {at}"),
+        },
+        Call::Append(name, bytes, wanted) => {
+            let appended = shelf.append(name, bytes).ok();
+            assert!(rt; appended == wanted, "to {name}");
+        }
+    }
+}
+
+/// Makes calls, each of which is answered so.
+fn assert_calls(rt: &impl Abort, shelf: &mut impl Shelf, room: &mut [u8], calls: &[Call]) {
+    for call in calls {
+        assert_call(rt, shelf, room, *call);
+    }
+}
+
+/// Reads of which the third call fails.
+const FAILING_READS: &[Call] = &[
+    Call::Read("s", 10, Some(b"r b\n")),
+    Call::Read("t", 0, None),
+    Call::Read("s", 0, None),
+    Call::Read("s", 14, Some(b"")),
+];
+
+/// Appends of which the first call fails, the sixth one.
+const FAILING_APPENDS: &[Call] = &[
+    Call::Append("t", b"z", None),
+    Call::Append("t", b"z", Some(1)),
+];
+
 #[test]
 fn memory_shelf_fails_where_told(rt: HostRuntime) -> Result<(), Fail> {
     let mut shelf = MemoryShelf::new(rt.alloc(), vec![in rt.alloc(); 3u64, 6]?);
     let mut room = [0; 8];
     shelf.add("s", SCRIPT)?;
-    assert_eq!(rt; shelf.read("s", 10, &mut room), Ok(4));
-    assert_eq!(rt; &room[..4], b"r b\n".as_slice());
-    assert_eq!(rt; shelf.read("t", 0, &mut room), Err(Failed));
-    assert_eq!(rt; shelf.read("s", 0, &mut room), Err(Failed));
-    assert_eq!(rt; shelf.read("s", 14, &mut room), Ok(0));
+    assert_calls(&rt, &mut shelf, &mut room, FAILING_READS);
     assert_eq!(rt; append_all(&mut shelf, "t", b"xy"), Ok(()));
-    assert_eq!(rt; shelf.append("t", b"z"), Err(Failed));
-    assert_eq!(rt; shelf.append("t", b"z"), Ok(1));
+    assert_calls(&rt, &mut shelf, &mut room, FAILING_APPENDS);
     assert_eq!(rt; shelf.file("t"), Some(b"xyz".as_slice()));
     assert_eq!(rt; shelf.file("u"), None);
     assert_eq!(rt; shelf.wants(), 0);
@@ -163,29 +203,61 @@ fn calls_are_answered_in_pieces(rt: HostRuntime) -> Result<(), Fail> {
     Ok(())
 }
 
+/// A change of the files of the system, or calls of a shelf over them.
+#[derive(Clone, Copy)]
+enum Change {
+    Write(&'static str, &'static [u8]),
+    Rename(&'static str, &'static str),
+    Remove(&'static str),
+    Calls(&'static [Call]),
+}
+
+/// Makes a change. Reads are of at most seven bytes.
+fn make(rt: &(impl Files + Abort), shelf: &mut impl Shelf, change: Change) -> io::Result<()> {
+    match change {
+        Change::Write(name, bytes) => fs::write(rt, name, bytes),
+        Change::Rename(from, to) => fs::rename(rt, from, to),
+        Change::Remove(name) => fs::remove_file(rt, name),
+        Change::Calls(calls) => {
+            assert_calls(rt, shelf, &mut [0; 7], calls);
+            Ok(())
+        }
+    }
+}
+
+/// A path, and another one whose file takes its place.
+const NAME: &str = "nm_io-whose-path";
+
+const OTHER: &str = "nm_io-of-another-path";
+
+/// A file is read on when another one has its path, and appended to when it has another path.
+const CHANGES: &[Change] = &[
+    Change::Write(NAME, SCRIPT),
+    Change::Write(OTHER, b"user c\nuser d\nuser e\n"),
+    Change::Calls(&[Call::Read(NAME, 0, Some(b"user a\n"))]),
+    Change::Rename(OTHER, NAME),
+    Change::Calls(&[
+        Call::Read(NAME, 7, Some(b"user b\n")),
+        Call::Read(NAME, 14, Some(b"")),
+        Call::Read(NAME, 0, Some(b"user c\n")),
+    ]),
+    Change::Remove(NAME),
+    Change::Calls(&[Call::Append(NAME, b"user a\n", Some(7))]),
+    Change::Rename(NAME, OTHER),
+    Change::Calls(&[
+        Call::Append(NAME, b"user b\n", Some(7)),
+        Call::Read(OTHER, 7, Some(b"user b\n")),
+        Call::Read(NAME, 0, None),
+    ]),
+    Change::Remove(OTHER),
+];
+
 #[test]
 fn files_stay_open_when_their_paths_change_hands(rt: HostRuntime) -> Result<(), Fail> {
-    let (name, other) = ("nm_io-whose-path", "nm_io-of-another-path");
     let mut shelf = FileShelf::new(&rt);
-    let mut room = [0; 7];
-    fs::write(&rt, name, SCRIPT.as_slice())?;
-    fs::write(&rt, other, b"user c\nuser d\nuser e\n".as_slice())?;
-    assert_eq!(rt; shelf.read(name, 0, &mut room), Ok(7));
-    fs::rename(&rt, other, name)?;
-    assert_eq!(rt; shelf.read(name, 7, &mut room), Ok(7));
-    assert_eq!(rt; &room, b"user b\n");
-    assert_eq!(rt; shelf.read(name, 14, &mut room), Ok(0));
-    assert_eq!(rt; shelf.read(name, 0, &mut room), Ok(7));
-    assert_eq!(rt; &room, b"user c\n");
-    fs::remove_file(&rt, name)?;
-
-    assert_eq!(rt; shelf.append(name, b"user a\n"), Ok(7));
-    fs::rename(&rt, name, other)?;
-    assert_eq!(rt; shelf.append(name, b"user b\n"), Ok(7));
-    assert_eq!(rt; shelf.read(other, 7, &mut room), Ok(7));
-    assert_eq!(rt; &room, b"user b\n");
-    assert_eq!(rt; shelf.read(name, 0, &mut room), Err(Failed));
-    fs::remove_file(&rt, other)?;
+    for change in CHANGES {
+        make(&rt, &mut shelf, *change)?;
+    }
     Ok(())
 }
 

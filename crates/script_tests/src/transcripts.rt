@@ -6,6 +6,7 @@ use nm_types::{
     SyncFault,
 };
 use std::alloc::Global;
+use std::process::Abort;
 use std::test::Fail;
 use vale_entry::{Ask, Dest, Dests, Entry, Item, Items, Numbers, Reply};
 use vale_text::{PutError, Text, TextFault, read, read_any, write_line, write_transcript};
@@ -18,10 +19,14 @@ fn entry(session: u32, ask: Ask, reply: Reply) -> Entry {
     }
 }
 
+fn name() -> Result<Name, Fail> {
+    Ok(Name::parse("vale0:a").ok().ok_or("name")?)
+}
+
 fn open(session: u32, rx: u32, extra: u32) -> Result<Ask, Fail> {
     Ok(Ask::Open {
         session: SessionId(session),
-        name: Name::parse("vale0:a").ok().ok_or("name")?,
+        name: name()?,
         tx: 4,
         rx,
         extra,
@@ -89,9 +94,18 @@ fn entries_are_written(rt: HostRuntime) -> Result<(), Fail> {
     Ok(())
 }
 
-fn put_line<K: Sink>(out: &mut K, number: u32, entry: &Entry) -> Result<(), Fail> {
-    write_line(number, entry, out).ok().ok_or("written")?;
-    Ok(())
+/// Writes the line of an entry, which does not fail.
+fn put_line(rt: &impl Abort, out: &mut impl Sink, number: u32, entry: &Entry) {
+    assert!(rt; write_line(number, entry, out).is_ok(), "line {number}");
+}
+
+/// Writes the lines of entries, the first of them under this number.
+fn put_lines(rt: &impl Abort, out: &mut impl Sink, first: u32, entries: &[Entry]) {
+    let mut number = first;
+    for entry in entries {
+        put_line(rt, out, number, entry);
+        number = number.saturating_add(1);
+    }
 }
 
 const LAST_ENTRIES: &[u8] =
@@ -105,9 +119,12 @@ fn closing_and_leaving_are_written(rt: HostRuntime) -> Result<(), Fail> {
     let (found, astray) = (0, 0);
     let chain = Chain { found, astray };
     let finish = Ask::Finish { port, bufs, chain };
-    put_line(&mut out, 9, &entry(1, Ask::Shut { port }, Reply::Made))?;
-    put_line(&mut out, 10, &entry(1, finish, Reply::Unread { count: 0 }))?;
-    put_line(&mut out, 11, &entry(1, Ask::Leave { session }, Reply::Made))?;
+    let entries = vec![in rt.alloc();
+        entry(1, Ask::Shut { port }, Reply::Made),
+        entry(1, finish, Reply::Unread { count: 0 }),
+        entry(1, Ask::Leave { session }, Reply::Made),
+    ]?;
+    put_lines(&rt, &mut out, 9, &entries);
     assert_eq!(rt; out.bytes(), LAST_ENTRIES);
     Ok(())
 }
@@ -172,11 +189,8 @@ fn resets_are_written(rt: HostRuntime) -> Result<(), Fail> {
     for (port, side, fault) in RESET_FAULTS {
         number = number.saturating_add(1);
         let port = PortId(port);
-        put_line(
-            &mut out,
-            number,
-            &entry(1, Ask::Reset { port, side, fault }, Reply::Made),
-        )?;
+        let reset = entry(1, Ask::Reset { port, side, fault }, Reply::Made);
+        put_line(&rt, &mut out, number, &reset);
     }
     assert_eq!(rt; out.bytes(), RESETS);
     Ok(())
@@ -185,15 +199,13 @@ fn resets_are_written(rt: HostRuntime) -> Result<(), Fail> {
 const PIPES: &[u8] =
     b"5 1 put 3 2 = took 2:ff0a,3:. to 6*1\n6 1 put 3 1 = took - to -\n7 1 put 2 1 = peergone\n8 2 get 4 2 = gave 0 to -\n9 3 watch 6 vale0:a t = ok 4\n10 3 watch 6 vale0:a r = notarget\n11 3 watch 6 vale0:a tr = watched 6\n12 2 stat 4 = sent 18446744073709551615 short 0 lone 0 given 1 full 2 read 1\n13 2 open vale0:a 4 2 3 = nobuffers 9 2\n";
 
+fn item(alloc: Global, index: u32, bytes: &[u8]) -> Result<Item, Fail> {
+    let bytes = Frame::new(alloc, bytes, false)?;
+    Ok(Item { index, bytes })
+}
+
 fn took(alloc: Global) -> Result<Reply, Fail> {
-    let first = Item {
-        index: 2,
-        bytes: Frame::new(alloc, &[0xff, 0x0a], false)?,
-    };
-    let second = Item {
-        index: 3,
-        bytes: Frame::new(alloc, &[], false)?,
-    };
+    let (first, second) = (item(alloc, 2, &[0xff, 0x0a])?, item(alloc, 3, &[])?);
     let to = Dest {
         to: PortId(6),
         count: 1,
@@ -207,7 +219,7 @@ fn took(alloc: Global) -> Result<Reply, Fail> {
 fn watch(sides: Sides) -> Result<Ask, Fail> {
     Ok(Ask::Watch {
         monitor: PortId(6),
-        target: Name::parse("vale0:a").ok().ok_or("name")?,
+        target: name()?,
         sides,
     })
 }
@@ -272,15 +284,8 @@ fn other_entries(alloc: Global) -> Result<Vec<Entry>, Fail> {
 #[test]
 fn pipes_monitors_and_counters_are_written(rt: HostRuntime) -> Result<(), Fail> {
     let mut out = MemorySink::new(rt.alloc(), Vec::new(rt.alloc()));
-    let mut number = 4u32;
-    for entry in &pipe_entries(rt.alloc())? {
-        number = number.saturating_add(1);
-        put_line(&mut out, number, entry)?;
-    }
-    for entry in &other_entries(rt.alloc())? {
-        number = number.saturating_add(1);
-        put_line(&mut out, number, entry)?;
-    }
+    put_lines(&rt, &mut out, 5, &pipe_entries(rt.alloc())?);
+    put_lines(&rt, &mut out, 9, &other_entries(rt.alloc())?);
     assert_eq!(rt; out.bytes(), PIPES);
     Ok(())
 }
@@ -601,16 +606,27 @@ fn first_listed(entries: &[Entry]) -> &[u32] {
     }
 }
 
-#[test]
-fn texts_of_either_version_are_read(rt: HostRuntime) -> Result<(), Fail> {
-    for (text, numbers, listed) in EITHER_TEXTS {
-        assert!(rt; text.len() < 4_294_967_295);
-        let told = read_any(rt.alloc(), text).ok().ok_or("read")?;
-        assert_eq!(rt; [told.version, told.pool, told.free], numbers);
-        assert_eq!(rt; first_listed(&told.entries), listed);
-        assert!(rt; told.entries.is_empty() == listed.is_empty());
+/// A text is read, with its version, its pool, the free buffers and those that its entry lists.
+fn assert_read(rt: &impl Abort, alloc: Global, text: &[u8], numbers: [u32; 3], listed: &[u32]) {
+    assert!(rt; text.len() < 4_294_967_295);
+    match read_any(alloc, text) {
+        Ok(told) => {
+            assert!(rt;
+                [told.version, told.pool, told.free] == numbers,
+                "{numbers:?}"
+            );
+            assert!(rt; first_listed(&told.entries) == listed, "{listed:?}");
+            assert!(rt; told.entries.is_empty() == listed.is_empty(), "{listed:?}");
+        }
+        Err(fault) => panic!(rt; "{fault:?}"),
     }
-    Ok(())
+}
+
+#[test]
+fn texts_of_either_version_are_read(rt: HostRuntime) {
+    for (text, numbers, listed) in EITHER_TEXTS {
+        assert_read(&rt, rt.alloc(), text, numbers, listed);
+    }
 }
 
 // texts with a line that lists more buffers than are read, in either version

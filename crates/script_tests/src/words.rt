@@ -107,21 +107,28 @@ fn bytes_and_addresses(rt: HostRuntime) -> Result<(), Fail> {
     Ok(())
 }
 
+/// A word for a side, and one for the sides that a monitor watches.
+const SIDE_WORDS: [&[u8]; 2] = [b"tx", b"t"];
+
+/// Words and their values.
+const DIGITS: [(&[u8], u32); 2] = [(b"one", 1), (b"two", 2)];
+
+/// Words with their values in that table, where 9 stands for those that it does not have.
+const DIGIT_WORDS: [(&[u8], u32); 3] = [(b"one", 1), (b"two", 2), (b"ten", 9)];
+
 #[test]
 fn fixed_words_and_what_they_stand_for(rt: HostRuntime) {
-    let words: [&[u8]; 2] = [b"tx", b"t"];
-    assert!(rt; matches!(side_of(word_at(&words, 0)), Side::Tx));
+    assert!(rt; matches!(side_of(word_at(&SIDE_WORDS, 0)), Side::Tx));
     assert!(rt; matches!(side_of(b"rx"), Side::Rx));
-    assert!(rt; matches!(sides_of(word_at(&words, 1)), Sides::T));
+    assert!(rt; matches!(sides_of(word_at(&SIDE_WORDS, 1)), Sides::T));
     assert!(rt; matches!(sides_of(b"r"), Sides::R));
     assert!(rt; matches!(sides_of(b"tr"), Sides::TR));
-    assert_eq!(rt; word_at(&words, 2), b"".as_slice());
-    let digits: [(&[u8], u32); 2] = [(b"one", 1), (b"two", 2)];
-    for (word, digit) in [
-        (b"one".as_slice(), 1),
-        (b"two".as_slice(), 2),
-        (b"ten".as_slice(), 9),
-    ] {
-        assert_eq!(rt; value_of(&digits, word, 9), digit);
+    assert_eq!(rt; word_at(&SIDE_WORDS, 2), b"".as_slice());
+}
+
+#[test]
+fn words_of_a_table_have_its_values(rt: HostRuntime) {
+    for (word, digit) in DIGIT_WORDS {
+        assert_eq!(rt; value_of(&DIGITS, word, 9), digit);
     }
 }

@@ -1,15 +1,14 @@
 //! The users of a block are inside their calls at once, and its gate is told whose stage it is.
-ghost use Rattle.std.specs.Prelude.{◌≡◌, ◌<◌, IfOk, map};
+ghost use Rattle.std.specs.Prelude.{◌≡◌, IfOk, map};
 ghost use Rattle.vale_act.specs.Words.{IsSound, name_of};
 
-use super::script;
+use super::{FROM_A, no_inputs, script};
 use nm_io::{Gate, NoGate, Stage};
-use nm_types::{Batch, Limits, PortId};
+use nm_types::{Batch, Limits, NoMemory, PortId};
 use pcap_io::Record;
 use std::alloc::{AllocError, Global};
 use std::process::Abort;
 use std::sync::{Mutex, Wait};
-use std::test::Fail;
 use std::thread;
 use std::thread::Threads;
 use std::time::{Clock, Duration};
@@ -42,7 +41,7 @@ const DESK: &[u8] =
 const READS: &[u8] = b"rx b vale0:b\nrx c vale0:c\nrx m mon0\n";
 
 /// The frames of the capture.
-const FRAMES: usize = 2_000;
+const FRAMES: u16 = 2_000;
 
 const ROOMY: Limits = Limits {
     entries: 10_000,
@@ -68,13 +67,18 @@ impl<'r, R: Abort + Wait + Clock> Meeting<'r, R> {
         passed.contains(&(1, Stage::Granted)) && passed.contains(&(2, Stage::Granted))
     }
 
+    /// Waits for a thousandth of a second.
+    fn wait(&self) {
+        thread::sleep(self.rt, Duration::from_millis(1));
+    }
+
     /// Waits until they have.
     fn meet(&self) {
         for _ in 0..10_000 {
             if self.have_met() {
                 return;
             }
-            thread::sleep(self.rt, Duration::from_millis(1));
+            self.wait();
         }
         panic!(self.rt; "the other user is not inside");
     }
@@ -95,7 +99,7 @@ fn played_past<R: AllocGlobal + Abort + Threads + Wait + Sync, G: Gate>(
     script: &Script,
     inputs: &Inputs,
     gate: &G,
-) -> Result<History, Fail>
+) -> Result<History, NoMemory>
     requires sound { IsSound script.now }
     requires files { map name_of inputs.now ≡ script.now.files }
 {
@@ -110,19 +114,25 @@ fn played_past<R: AllocGlobal + Abort + Threads + Wait + Sync, G: Gate>(
     }
 }
 
-/// Two users of a block meet inside their sends. Answers what was recorded, and what was passed.
+/// Two users of a block send side by side, past a gate.
+fn pair_past<R: AllocGlobal + Abort + Threads + Wait + Sync, G: Gate>(
+    rt: &R,
+    gate: &G,
+) -> Result<History, NoMemory> {
+    let script = script(rt, PAIR);
+    let inputs = no_inputs(rt, &script);
+    played_past(rt, &script, &inputs, gate)
+}
+
+/// They meet inside their sends. Answers what was recorded, and what was passed.
 fn met<R: AllocGlobal + Abort + Threads + Wait + Clock + Sync>(
     rt: &R,
-) -> Result<(History, Vec<(u64, Stage)>), Fail> {
-    let alloc = rt.alloc();
-    let script = script(rt, PAIR);
-    assert!(rt; script.files().is_empty());
-    let inputs = Inputs::from(Vec::new(alloc));
+) -> Result<(History, Vec<(u64, Stage)>), NoMemory> {
     let gate = Meeting {
         rt,
-        passed: Mutex::new(Vec::new(alloc)),
+        passed: Mutex::new(Vec::new(rt.alloc())),
     };
-    let history = played_past(rt, &script, &inputs, &gate)?;
+    let history = pair_past(rt, &gate)?;
     let Meeting { rt: _, passed } = gate;
     Ok((history, passed.into_inner()))
 }
@@ -141,6 +151,14 @@ fn first_done(history: &History) -> Option<usize> {
         .position(|entry| matches!(&entry.ask, Ask::Done { .. }))
 }
 
+/// A session's first grant is recorded before a frame is delivered.
+fn is_granted_first(history: &History, session: u32) -> bool {
+    match (first_grant(history, session), first_done(history)) {
+        (Some(granted), Some(done)) => granted < done,
+        _ => false,
+    }
+}
+
 /// A stage that is not the next one of its user's, which has passed so many.
 fn is_astray(passed: &[(u64, Stage)], user: u64) -> bool {
     let mut wanted = STAGES.iter();
@@ -155,45 +173,57 @@ fn is_astray(passed: &[(u64, Stage)], user: u64) -> bool {
 /// The first grants of both users, whose sessions have their numbers, are recorded before a frame is
 /// delivered; and each lease of theirs is passed at its three stages in their order, as that user's.
 #[test]
-fn both_users_inside(rt: HostRuntime) -> Result<(), Fail> {
+fn both_users_inside(rt: HostRuntime) -> Result<(), NoMemory> {
     let (history, passed) = met(&rt)?;
-    let done = first_done(&history).ok_or("done")?;
     for user in [1, 2] {
-        assert!(rt; first_grant(&history, user).ok_or("granted")? < done);
+        assert!(rt; is_granted_first(&history, user));
         assert!(rt; !is_astray(&passed, u64::from(user)));
     }
     assert_eq!(rt; passed.len(), 12);
     Ok(())
 }
 
-/// A broadcast of the capture, of 60 to 1,514 bytes, with its number behind its header.
-fn desk_record(alloc: Global, number: usize) -> Result<Record, AllocError>
-    requires { number < 2000 }
-{
-    let len = 60 + number * 97 % 1_455;
-    let mut bytes = vec![in alloc; 0; len]?;
-    bytes[..14].copy_from_slice(b"\xff\xff\xff\xff\xff\xff\x02\x00\x00\x00\x00\n\x88\xb5");
-    bytes[14] = (number / 256) as u8;
-    bytes[15] = (number % 256) as u8;
+/// How many bytes a broadcast of the capture has, 60 to 1,514.
+fn desk_len(number: u16) -> u32 {
+    60 + u32::from(number) * 97 % 1_455
+}
+
+/// A broadcast of the capture, with its number behind its header.
+fn desk_frame(alloc: Global, number: u16) -> Result<Vec<u8>, AllocError> {
+    let mut bytes = Vec::from_slice(alloc, FROM_A)?;
+    bytes.extend_from_slice(&number.to_be_bytes())?;
+    bytes.resize(desk_len(number) as usize, 0)?;
+    Ok(bytes)
+}
+
+/// The record of a broadcast of the capture.
+fn desk_record(alloc: Global, number: u16) -> Result<Record, AllocError> {
+    let bytes = desk_frame(alloc, number)?;
     Ok(Record {
         seconds: 0,
         fraction: 0,
-        original: len as u32,
+        original: desk_len(number),
         bytes: bytes.into(),
     })
 }
 
+/// The records of the capture.
+fn desk_records(alloc: Global) -> Result<Vec<Record>, AllocError> {
+    let mut records = Vec::new(alloc);
+    for number in 0..FRAMES {
+        records.push(desk_record(alloc, number)?)?;
+    }
+    Ok(records)
+}
+
 /// The capture of the desk's script.
-fn desk_inputs<R: AllocGlobal + Abort>(rt: &R, script: &Script) -> Result<Inputs, Fail>
+fn desk_inputs<R: AllocGlobal + Abort>(rt: &R, script: &Script) -> Result<Inputs, NoMemory>
     ensures { IfOk result (λ inputs. map name_of inputs ≡ script.now.files) }
 {
     let alloc = rt.alloc();
     let files = script.files();
     assert!(rt; files.len() == 1);
-    let mut records = Vec::new(alloc);
-    for number in 0..FRAMES {
-        records.push(desk_record(alloc, number)?)?;
-    }
+    let records = desk_records(alloc)?;
     let name = String::from_str(alloc, files[0].as_str())?;
     let mut inputs = Vec::new(alloc);
     inputs.push(Input { name, records })?;
@@ -201,16 +231,13 @@ fn desk_inputs<R: AllocGlobal + Abort>(rt: &R, script: &Script) -> Result<Inputs
 }
 
 /// The desk's script: a block in which one plays and three read.
-fn desk_script<R: AllocGlobal + Abort>(rt: &R) -> Result<Script, Fail>
-    ensures { IfOk result IsSound }
-{
-    let mut text = Vec::new(rt.alloc());
-    text.extend_from_slice(DESK)?;
+fn desk_text(alloc: Global) -> Result<Vec<u8>, AllocError> {
+    let mut text = Vec::from_slice(alloc, DESK)?;
     for _ in 0..40 {
         text.extend_from_slice(READS)?;
     }
     text.extend_from_slice(b"end\n")?;
-    Ok(script(rt, &text))
+    Ok(text)
 }
 
 /// The frames are the next ones of the capture. Answers how many are behind them.
@@ -245,22 +272,35 @@ fn adds_up(history: &History, entry: &Entry) -> bool {
     }
 }
 
-/// Thirty-two sends of up to 64 frames bring the capture into the switch, in its order, and each
-/// grant shares out what its port wants.
-#[test]
-fn a_desk_is_played(rt: HostRuntime) -> Result<(), Fail> {
-    let script = desk_script(&rt)?;
-    let inputs = desk_inputs(&rt, &script)?;
-    let history = played_past(&rt, &script, &inputs, &NoGate)?;
-    let records = inputs.records("desk.pcap");
+/// Each grant shares out what its port wants.
+fn all_add_up(rt: &impl Abort, history: &History) {
+    for entry in history.entries() {
+        assert!(rt; adds_up(history, entry));
+    }
+}
+
+/// The sends bring the capture, in its order. Answers how many frames that are, and how many sends.
+fn brought(rt: &impl Abort, history: &History, records: &[Record]) -> (usize, u32) {
     let (mut at, mut sends) = (0, 0);
     for entry in history.entries() {
-        assert!(rt; adds_up(&history, entry));
         if let Ask::Send { port: _, frames } = &entry.ask {
-            at = are_next(&rt, frames, records, at);
+            at = are_next(rt, frames, records, at);
             sends = u32::wrapping_add(sends, 1);
         }
     }
-    assert_eq!(rt; (at, sends), (FRAMES, 32));
+    (at, sends)
+}
+
+/// Thirty-two sends of up to 64 frames bring the capture into the switch, in its order, and each
+/// grant shares out what its port wants.
+#[test]
+fn a_desk_is_played(rt: HostRuntime) -> Result<(), NoMemory> {
+    let text = desk_text(rt.alloc())?;
+    let script = script(&rt, &text);
+    let inputs = desk_inputs(&rt, &script)?;
+    let history = played_past(&rt, &script, &inputs, &NoGate)?;
+    all_add_up(&rt, &history);
+    let frames = usize::from(FRAMES);
+    assert!(rt; brought(&rt, &history, inputs.records("desk.pcap")) == (frames, 32));
     Ok(())
 }

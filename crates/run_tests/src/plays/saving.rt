@@ -1,8 +1,8 @@
 //! The longest frame is saved whole.
-use super::{FROM_A, played};
+use super::{FROM_A, plays};
 use nm_io::MemoryShelf;
-use nm_types::Limits;
-use std::test::Fail;
+use nm_types::{Limits, NoMemory};
+use std::process::Abort;
 
 /// A frame of 2,048 bytes comes to a port whose frames are saved.
 const LONG: &[u8] =
@@ -16,14 +16,18 @@ const ROOMY: Limits = Limits {
     bytes: 10_000,
 };
 
-#[test]
-fn the_longest_frame_is_saved(rt: HostRuntime) -> Result<(), Fail> {
-    let mut shelf = MemoryShelf::new(rt.alloc(), Vec::new(rt.alloc()));
-    assert_eq!(rt; played(&rt, LONG, ROOMY, &mut shelf)?, (14, Ok(())));
-    let saved = shelf.file("long.pcap").ok_or("saved")?;
+/// All bytes of the frame are saved.
+fn holds_longest(rt: &impl Abort, saved: &[u8]) {
     assert_eq!(rt; saved.len(), 2_088);
     assert_eq!(rt; &saved[24..40], RECORD);
     assert_eq!(rt; &saved[40..54], FROM_A);
     assert!(rt; saved[54..].iter().all(|byte| *byte == 0x5a));
+}
+
+#[test]
+fn the_longest_frame_is_saved(rt: HostRuntime) -> Result<(), NoMemory> {
+    let mut shelf = MemoryShelf::new(rt.alloc(), Vec::new(rt.alloc()));
+    plays(&rt, LONG, ROOMY, &mut shelf, (14, Ok(())))?;
+    holds_longest(&rt, shelf.file("long.pcap").unwrap_or(b""));
     Ok(())
 }

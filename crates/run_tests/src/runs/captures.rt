@@ -6,6 +6,10 @@ pub(super) use vale_cases::{CAPTURE as PLAYED, CAPTURE_SCRIPT as CAPTURE, CAPTUR
 pub(super) const PLAYED_HEADER: &[u8] =
     b"\xa1\xb2<M\x00\x02\x00\x04\x00\x00\x00\x00\x00\x00\x00\x00\x00\x04\x00\x00\x00\x00\x00\x01";
 
+/// A capture without records, as it is saved.
+pub(super) const SAVED_HEADER: &[u8] =
+    b"\xd4\xc3\xb2\xa1\x02\x00\x04\x00\x00\x00\x00\x00\x00\x00\x00\x00\x00\x00\x04\x00\x01\x00\x00\x00";
+
 /// A broadcast of 14 bytes, with which the frames of long records begin.
 pub(super) const BROADCAST: &[u8] = b"\xff\xff\xff\xff\xff\xff\x02\x00\x00\x00\x00\n\x88\xb5";
 
@@ -94,11 +98,7 @@ pub(super) const LONG_RECORDS: &[(&[u32], &[u8], &[u8])] = &[
 pub(super) const SAVED_CAPTURES: &[(&[u8], &[u8], &[u8])] = &[
     // A capture with nanoseconds, and one without records.
     (CAPTURE, PLAYED, SAVED),
-    (
-        CAPTURE,
-        PLAYED_HEADER,
-        b"\xd4\xc3\xb2\xa1\x02\x00\x04\x00\x00\x00\x00\x00\x00\x00\x00\x00\x00\x00\x04\x00\x01\x00\x00\x00",
-    ),
+    (CAPTURE, PLAYED_HEADER, SAVED_HEADER),
     // Four frames through a pipe: tcpdump wrote the capture, as examples/README.md says.
     (
         PIPE_CAPTURE,

@@ -3,7 +3,6 @@
 ghost use Rattle.std.specs.Prelude.{◌≤◌};
 
 use super::*;
-use nm_types::NoMemory;
 use std::io;
 use vale_cases::{CAPTURE_RUN, CUTS, Cut, RINGS, RUNS, Run};
 
@@ -32,6 +31,29 @@ const GOOD: Answers = Answers {
     piece: usize::MAX,
 };
 
+/// A shelf that answers so, with a script and a capture.
+fn shelf_of(
+    alloc: Global,
+    script: &[u8],
+    capture: &[u8],
+    answers: Answers,
+) -> Result<MemoryShelf, NoMemory>
+    requires { 1 ≤ answers.piece }
+{
+    let fail = vec![in alloc; answers.fail_shelf]?;
+    let mut shelf = MemoryShelf::in_pieces(alloc, fail, answers.piece);
+    fill(&mut shelf, script, capture)?;
+    Ok(shelf)
+}
+
+/// A sink that answers so.
+fn sink_of(alloc: Global, answers: Answers) -> Result<MemorySink, AllocError>
+    requires { 1 ≤ answers.piece }
+{
+    let fail = vec![in alloc; answers.fail_sink]?;
+    Ok(MemorySink::in_pieces(alloc, fail, answers.piece))
+}
+
 /// A run of a script, with this capture as in.pcap.
 fn tried<R: AllocGlobal + Threads + Wait + Sync>(
     rt: &R,
@@ -41,71 +63,95 @@ fn tried<R: AllocGlobal + Threads + Wait + Sync>(
 ) -> Result<(Left, Status), NoMemory>
     requires { 1 ≤ answers.piece }
 {
-    let alloc = rt.alloc();
-    let fail = vec![in alloc; answers.fail_shelf]?;
-    let mut shelf = MemoryShelf::in_pieces(alloc, fail, answers.piece);
-    shelf.add("s", script)?;
-    shelf.add("in.pcap", capture)?;
-    let fail = vec![in alloc; answers.fail_sink]?;
-    let mut out = MemorySink::in_pieces(alloc, fail, answers.piece);
-    let words = command(alloc, &["run", "s"])?;
-    let mut line = MemorySink::new(alloc, Vec::new(alloc));
-    let status = run(rt, &words, &mut shelf, &mut out, &NoGate);
-    let code = report(&mut line, &status);
-    let left = Left {
-        shelf,
-        out,
-        line,
-        code,
-    };
-    Ok((left, status))
+    let words = command(rt.alloc(), &["run", "s"])?;
+    let shelf = shelf_of(rt.alloc(), script, capture, answers)?;
+    let out = sink_of(rt.alloc(), answers)?;
+    Ok(run_over(rt, &words, shelf, out))
+}
+
+/// The run is done, and writes its text.
+fn is_done<R: AllocGlobal + Threads + Wait + Sync + Abort>(
+    rt: &R,
+    run: &Run,
+    piece: usize,
+) -> Result<(), NoMemory>
+    requires { 1 ≤ piece }
+{
+    let (left, _status) = tried(rt, run.script, EMPTY, Answers { piece, ..GOOD })?;
+    left.says(rt, EMPTY, run.text);
+    Ok(())
 }
 
 #[test]
-fn wrong_rings_and_chains_are_told(rt: HostRuntime) -> Result<(), Fail> {
+fn wrong_rings_and_chains_are_told(rt: HostRuntime) -> Result<(), NoMemory> {
     for run in RINGS {
-        let (left, _status) = tried(&rt, run.script, EMPTY, GOOD)?;
-        left.says(&rt, EMPTY, run.text);
+        is_done(&rt, &run, usize::MAX)?;
     }
     Ok(())
 }
 
-/// The sink's calls fail in turn, as many as the run makes; answers how many these are. What was
-/// written is the beginning of the text each time.
+/// The run could not write all, and wrote the beginning of its text.
+fn breaks_off(rt: &impl Abort, left: &Left, text: &[u8]) {
+    assert_eq!(rt; left.line.bytes(), NO_WRITE);
+    assert!(rt; text.starts_with(left.out.bytes()));
+}
+
+/// A run whose sink may fail at a call is done with its whole text, or breaks off. Tells whether it
+/// is done.
+fn is_done_past<R: AllocGlobal + Threads + Wait + Sync + Abort>(
+    rt: &R,
+    run: &Run,
+    answers: Answers,
+) -> Result<bool, NoMemory>
+    requires { 1 ≤ answers.piece }
+{
+    let (left, status) = tried(rt, run.script, EMPTY, answers)?;
+    let done = matches!(status, Status::Done);
+    if done {
+        left.says(rt, EMPTY, run.text);
+    } else {
+        breaks_off(rt, &left, run.text);
+    }
+    Ok(done)
+}
+
+/// The sink's calls fail in turn, as many as the run makes; answers how many these are.
 fn fail_each_put<R: AllocGlobal + Threads + Wait + Sync + Abort>(
     rt: &R,
     run: &Run,
     piece: usize,
-) -> Result<u64, Fail>
+) -> Result<u64, NoMemory>
     requires { 1 ≤ piece }
 {
-    let (script, text) = (run.script, run.text);
     for fail_sink in 1..9_999 {
         let answers = Answers {
             fail_sink,
             piece,
             ..GOOD
         };
-        let (left, status) = tried(rt, script, EMPTY, answers)?;
-        if matches!(status, Status::Done) {
-            left.says(rt, EMPTY, text);
+        if is_done_past(rt, run, answers)? {
             return Ok(fail_sink - 1);
         }
-        assert!(rt; left.line.bytes() == NO_WRITE);
-        assert!(rt; text.starts_with(left.out.bytes()));
     }
     Ok(0)
 }
 
+/// The sink's calls fail in turn where each takes all bytes, and where each takes 50; and each may
+/// take one.
+fn fail_puts<R: AllocGlobal + Threads + Wait + Sync + Abort>(
+    rt: &R,
+    run: &Run,
+) -> Result<(), NoMemory> {
+    assert!(rt; fail_each_put(rt, run, usize::MAX)? > 1, "{}", run.name);
+    let calls = fail_each_put(rt, run, 50)?;
+    assert!(rt; calls >= run.text.len() as u64 / 50, "{}", run.name);
+    is_done(rt, run, 1)
+}
+
 #[test]
-fn a_sink_fails_at_each_call(rt: HostRuntime) -> Result<(), Fail> {
+fn a_sink_fails_at_each_call(rt: HostRuntime) -> Result<(), NoMemory> {
     for run in RUNS {
-        assert!(rt; fail_each_put(&rt, &run, usize::MAX)? > 1, "{}", run.name);
-        let calls = fail_each_put(&rt, &run, 50)?;
-        assert!(rt; calls >= run.text.len() as u64 / 50, "{}", run.name);
-        let one_by_one = Answers { piece: 1, ..GOOD };
-        let (left, _status) = tried(&rt, run.script, EMPTY, one_by_one)?;
-        left.says(&rt, EMPTY, run.text);
+        fail_puts(&rt, &run)?;
     }
     Ok(())
 }
@@ -118,44 +164,67 @@ const SHELF_CALLS: [(usize, u64, u64, u64); 3] = [
     (1, 123, 178, 232),
 ];
 
+/// The line and the text of a run whose shelf fails at a call.
+fn told_by(row: (usize, u64, u64, u64), fail_shelf: u64) -> (&'static [u8], &'static [u8]) {
+    let (_, script, capture, save) = row;
+    if fail_shelf <= script {
+        (NO_SCRIPT, EMPTY)
+    } else if fail_shelf <= capture {
+        (NO_CAPTURE, EMPTY)
+    } else if fail_shelf <= save {
+        (NO_WRITE, CAPTURE_TEXT)
+    } else {
+        (EMPTY, CAPTURE_TEXT)
+    }
+}
+
+/// The shelf fails at a call. What was saved is the beginning of the capture, all of it behind the
+/// last call.
+fn fail_shelf_call<R: AllocGlobal + Threads + Wait + Sync + Abort>(
+    rt: &R,
+    row: (usize, u64, u64, u64),
+    fail_shelf: u64,
+) -> Result<(), NoMemory>
+    requires piece { 1 ≤ row.0 }
+{
+    let answers = Answers {
+        fail_shelf,
+        piece: row.0,
+        ..GOOD
+    };
+    let (left, _status) = tried(rt, CAPTURE, PLAYED, answers)?;
+    let (line, text) = told_by(row, fail_shelf);
+    left.says(rt, line, text);
+    assert!(rt; SAVED.starts_with(left.saved()));
+    assert!(rt; fail_shelf <= row.3 || left.saved() == SAVED);
+    Ok(())
+}
+
 /// The shelf's calls fail in turn, and one behind them.
 fn fail_each_shelf_call<R: AllocGlobal + Threads + Wait + Sync + Abort>(
     rt: &R,
     row: (usize, u64, u64, u64),
-) -> Result<(), Fail>
-    requires piece { 1 ≤ row.0 }
-{
-    let (piece, script, capture, save) = row;
-    for fail_shelf in 1..=save.saturating_add(1) {
-        let answers = Answers {
-            fail_shelf,
-            piece,
-            ..GOOD
-        };
-        let (left, _status) = tried(rt, CAPTURE_RUN.script, PLAYED, answers)?;
-        let saved = left.shelf.file("out.pcap").unwrap_or(EMPTY);
-        assert!(rt; SAVED.starts_with(saved));
-        if fail_shelf <= script {
-            left.says(rt, NO_SCRIPT, EMPTY);
-        } else if fail_shelf <= capture {
-            left.says(rt, NO_CAPTURE, EMPTY);
-        } else if fail_shelf <= save {
-            left.says(rt, NO_WRITE, CAPTURE_RUN.text);
-        } else {
-            left.says(rt, EMPTY, CAPTURE_RUN.text);
-            assert_eq!(rt; saved, SAVED);
-        }
+) -> Result<(), NoMemory> {
+    assert!(rt; row.0 > 0);
+    for fail_shelf in 1..=row.3.saturating_add(1) {
+        fail_shelf_call(rt, row, fail_shelf)?;
     }
     Ok(())
 }
 
 #[test]
-fn a_shelf_fails_at_each_call(rt: HostRuntime) -> Result<(), Fail> {
+fn a_shelf_fails_at_each_call(rt: HostRuntime) -> Result<(), NoMemory> {
     for row in SHELF_CALLS {
-        assert!(rt; row.0 > 0);
         fail_each_shelf_call(&rt, row)?;
     }
     Ok(())
+}
+
+/// The run is done, and saves the first bytes of the capture.
+fn saves_cut(rt: &impl Abort, left: &Left, count: usize) {
+    let saved = left.saved();
+    assert_eq!(rt; left.line.bytes(), EMPTY);
+    assert!(rt; saved.len() == count && SAVED.starts_with(saved));
 }
 
 /// A run that plays the first bytes of the capture.
@@ -163,35 +232,50 @@ fn play_cut<R: AllocGlobal + Threads + Wait + Sync + Abort>(
     rt: &R,
     cut: &Cut,
     len: usize,
-) -> Result<(), Fail> {
+) -> Result<(), NoMemory> {
     let part = &PLAYED[..len.min(PLAYED.len())];
-    let (left, _status) = tried(rt, CAPTURE_RUN.script, part, GOOD)?;
+    let (left, _status) = tried(rt, CAPTURE, part, GOOD)?;
     match cut.truncated {
         Some(0) => left.says(rt, BYTE_0_TRUNCATED, EMPTY),
         Some(_) => left.says(rt, BYTE_24_TRUNCATED, EMPTY),
-        None => {
-            let saved = left.shelf.file("out.pcap").ok_or("saved")?;
-            let count = if cut.records == 0 { 24 } else { 54 };
-            assert_eq!(rt; left.line.bytes(), EMPTY);
-            assert!(rt; saved.len() == count && SAVED.starts_with(saved));
-        }
+        None => saves_cut(rt, &left, if cut.records == 0 { 24 } else { 54 }),
+    }
+    Ok(())
+}
+
+/// Runs that play the first bytes of the capture, as many as the cut says.
+fn play_cuts<R: AllocGlobal + Threads + Wait + Sync + Abort>(
+    rt: &R,
+    cut: &Cut,
+) -> Result<(), NoMemory> {
+    for len in cut.from..=cut.to {
+        play_cut(rt, cut, len)?;
     }
     Ok(())
 }
 
 #[test]
-fn a_capture_is_cut_at_each_length(rt: HostRuntime) -> Result<(), Fail> {
+fn a_capture_is_cut_at_each_length(rt: HostRuntime) -> Result<(), NoMemory> {
     for cut in CUTS {
-        for len in cut.from..=cut.to {
-            play_cut(&rt, &cut, len)?;
-        }
+        play_cuts(&rt, &cut)?;
     }
     Ok(())
 }
 
 /// A run of which an allocation may have been refused is done, or says that memory is wanting, or
 /// cannot write where its sink or shelf could not grow; and what it wrote is the beginning of the text.
-/// Prints where one was refused, which may be before the run begins.
+fn has_ended(run: &Run, left: &Left, status: &Status) -> bool {
+    let ended = match status {
+        Status::Done => left.out.bytes().len() == run.text.len(),
+        Status::WriteFault => left.out.wants() > 0 || left.shelf.wants() > 0,
+        Status::NoMemory => true,
+        _ => false,
+    };
+    ended && run.text.starts_with(left.out.bytes())
+}
+
+/// Runs where an allocation may be refused, and prints where one was, which may be before the run
+/// begins.
 fn end_for_want_of_memory<R: AllocGlobal + Threads + Wait + Sync + Abort + Print>(
     rt: &R,
     run: &Run,
@@ -199,17 +283,7 @@ fn end_for_want_of_memory<R: AllocGlobal + Threads + Wait + Sync + Abort + Print
     let Ok((left, status)) = tried(rt, run.script, PLAYED, GOOD) else {
         return println!(rt; "refused before {}", run.name);
     };
-    let ended = match status {
-        Status::Done => left.out.bytes().len() == run.text.len(),
-        Status::WriteFault => left.out.wants() > 0 || left.shelf.wants() > 0,
-        Status::NoMemory => true,
-        _ => false,
-    };
-    assert!(rt;
-        ended && run.text.starts_with(left.out.bytes()),
-        "{}",
-        run.name
-    );
+    assert!(rt; has_ended(run, &left, &status), "{}", run.name);
     if left.line.wants() > 0 || !matches!(status, Status::Done) {
         println!(rt; "refused in {}", run.name)?;
     }
@@ -219,10 +293,9 @@ fn end_for_want_of_memory<R: AllocGlobal + Threads + Wait + Sync + Abort + Print
 /// `checks/refused_growth` has one allocation after another of this test refused, and
 /// `checks/refused_allocations` those of the program.
 #[test]
-fn growth_may_be_refused(rt: HostRuntime) -> Result<(), Fail> {
+fn growth_may_be_refused(rt: HostRuntime) -> io::Result<()> {
     for run in RUNS {
         end_for_want_of_memory(&rt, &run)?;
     }
-    end_for_want_of_memory(&rt, &CAPTURE_RUN)?;
-    Ok(())
+    end_for_want_of_memory(&rt, &CAPTURE_RUN)
 }

@@ -7,30 +7,37 @@ const SEVEN: &[u8] = b"load 7 users 4 frames 8000 bytes 731072 free 8192\n";
 
 const GREATEST: &[u8] = b"load 18446744073709551615 users 4 frames 8000 bytes 730560 free 8192\n";
 
+/// A load of this number, of which a call of the sink may fail, ends with this line and writes this
+/// text.
+fn load_says<R: AllocGlobal + Threads + Wait + Sync + Abort>(
+    rt: &R,
+    number: &str,
+    fail_sink: u64,
+    line: &[u8],
+    text: &[u8],
+) -> Result<(), NoMemory> {
+    let left = ran(rt, &["load", number], EMPTY, EMPTY, 99, fail_sink)?;
+    left.says(rt, line, text);
+    Ok(())
+}
+
 /// The same line, however the users' calls come one after another.
 #[test]
-fn loads_of_seven_are_alike(rt: HostRuntime) -> Result<(), Fail> {
-    for word in ["7", "007", "7"] {
-        let left = ran(&rt, &["load", word], EMPTY, EMPTY, 99, 99)?;
-        left.says(&rt, EMPTY, SEVEN);
-    }
-    Ok(())
+fn loads_of_seven_are_alike(rt: HostRuntime) -> Result<(), NoMemory> {
+    load_says(&rt, "7", 99, EMPTY, SEVEN)?;
+    load_says(&rt, "007", 99, EMPTY, SEVEN)?;
+    load_says(&rt, "7", 99, EMPTY, SEVEN)
 }
 
 /// The greatest number, in as many digits as may be.
 #[test]
-fn greatest_load_is_run(rt: HostRuntime) -> Result<(), Fail> {
-    let left = ran(&rt, &["load", "18446744073709551615"], EMPTY, EMPTY, 99, 99)?;
-    left.says(&rt, EMPTY, GREATEST);
-    Ok(())
+fn greatest_load_is_run(rt: HostRuntime) -> Result<(), NoMemory> {
+    load_says(&rt, "18446744073709551615", 99, EMPTY, GREATEST)
 }
 
 /// The line is written by one call, the first, which fails.
 #[test]
-fn line_of_load_fails(rt: HostRuntime) -> Result<(), Fail> {
-    let left = ran(&rt, &["load", "7"], EMPTY, EMPTY, 99, 1)?;
-    left.says(&rt, b"vale: cannot write\n", EMPTY);
-    let left = ran(&rt, &["load", "7"], EMPTY, EMPTY, 99, 2)?;
-    left.says(&rt, EMPTY, SEVEN);
-    Ok(())
+fn line_of_load_fails(rt: HostRuntime) -> Result<(), NoMemory> {
+    load_says(&rt, "7", 1, b"vale: cannot write\n", EMPTY)?;
+    load_says(&rt, "7", 2, EMPTY, SEVEN)
 }

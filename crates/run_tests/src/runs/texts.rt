@@ -8,7 +8,7 @@ pub(super) const OLD_TEXT: &[u8] =
     b"vale 1 pool 8192\n1 enter 1\n2 enter 2\n3 1 open vale0:a 4 4 0 = ok\n4 2 open vale0:b 4 4 0 = ok\n5 1 send 3 ffffffffffff02000000000a88b511111111111111111111111111111111111111111111111111111111111111111111111111111111111111111111 = short 0 lone 0 to 4*1\n6 1 grant 5 4 = given 1 full 0 gone 0\n7 1 done 6\n8 2 sync 4 - = gave 1 to -\n9 1 shut 3\n10 1 finish 3 2,3,4,5 found 0 astray 0 = unread 0\n11 1 leave\n12 2 shut 4\n13 2 finish 4 10,11,12,13,14 found 0 astray 0 = unread 0\n14 2 leave\nend 14 free 8192\n";
 
 /// A text, the status with which its migration ends, the line that says so, and what is written.
-type Migration = (&'static [u8], u8, &'static [u8], &'static [u8]);
+pub(super) type Migration = (&'static [u8], u8, &'static [u8], &'static [u8]);
 
 pub(super) const MIGRATIONS: &[Migration] = &[
     (OLD_TEXT, 0, EMPTY, FIRST_TEXT),
