@@ -22,6 +22,7 @@ pub mod DeedTasks
 pub mod SeatRuns
 pub mod BlockRuns
 pub mod BlockParts
+pub mod SaveNames
 pub mod Alone
 pub mod Closings
 pub mod Runnable

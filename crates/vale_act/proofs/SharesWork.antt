@@ -194,7 +194,7 @@ entering-at fabric number tasks rest p q parted began main next later has entere
 
 pub coming-at : ComingIsAt
 coming-at fabric number tasks p parted began main next later has entered same here low high =
-    entering-at fabric number tasks (EndLine ∷ []) p p parted began main next later has entered same (record { number = refl; fabric = refl; fixed = refl }) here
+    entering-at fabric number tasks (EndLine ∷ []) p p parted began main next later has entered same (record { number = refl; names = refl; fabric = refl; fixed = refl }) here
     (lines-end p.number p.saves p.session) low high
 
 pub enter-stop-at : EnterStopIsAt

@@ -1,6 +1,6 @@
 -- What the main pass and the seats of a script's users learn from one another, and what a line or a
 -- block makes of them.
-use Rattle.std.specs.Prelude.{ℕ, ◌≡◌, ◌<◌, ◌≤◌, ◌+◌, List, [], ◌∷◌, ◌++◌, length, flat_map, take, Option, Some, None, slice_get, Result, Ok, OnOk, IfErr, Vec}
+use Rattle.std.specs.Prelude.{ℕ, ◌≡◌, ◌<◌, ◌≤◌, ◌+◌, List, [], ◌∷◌, ◌++◌, length, flat_map, map, take, Option, Some, None, slice_get, Result, Ok, OnOk, IfErr, Vec}
 use Rattle.std.specs.List.{AllByRecursion}
 use Rattle.std.specs.declared.alloc.Global.{Global}
 use mathlib.Core.List.{IsPrefix}
@@ -18,7 +18,7 @@ use Rattle.vale_script.specs.declared.script.Unit.{Unit as ReadUnit}
 use Rattle.vale_script.specs.declared.script.Unit.TheVariants as parts
 use Rattle.vale_script.specs.Script.{Program}
 use Rattle.vale_captures.specs.Inputs.{InputFile}
-use Rattle.vale_player.specs.Deeds.{AreDoable, IsDoable}
+use Rattle.vale_player.specs.Deeds.{AllSaveNamed, AreDoable, IsDoable}
 use Rattle.vale_player.specs.Inputs.{captures_of, names_of}
 use Rattle.vale_entry.specs.declared.entry.Ask.{Ask}
 use Rattle.vale_entry.specs.declared.entry.Entry.{Entry}
@@ -28,7 +28,7 @@ use Rattle.nm_user.specs.Calls.{IsRefused}
 use Rattle.vale_fabric.specs.declared.kept.Fixed.{Fixed}
 use Rattle.vale_replay.specs.Machine.{Machine, Save, closing_tasks}
 use Rattle.vale_replay.specs.Tasks.{Captures, Task, tasks_of_lines}
-use Rattle.vale_replay.specs.Replay.{Cast, HasPlayed, ScriptUnit, times_among, units_of, user_count}
+use Rattle.vale_replay.specs.Replay.{Cast, HasPlayed, ScriptUnit, act_of, times_among, units_of, user_count}
 use Rattle.vale_fabric.specs.declared.fabric.Fabric.{Fabric}
 use Rattle.vale_fabric.specs.Fabrics.{Knowing, IsPassIn, record_in}
 use Rattle.vale_player.specs.Players.{PlayerState, Does, HasEntered, IsStill, RunsLines, Stops}
@@ -114,6 +114,14 @@ IsSeated number (Gone saves) = ⊥
 abbrev pub AreSeated : List Seat → Type 0
 AreSeated seats = AllAre (λ place. IsSeated (place + 1)) seats
 
+-- of the ports of these names the frames are kept, where a user is there, and where all are
+abbrev pub KeepsNames : List (List ℕ) → Seat → Type 0
+KeepsNames names (There p fault) = p.names ≡ names
+KeepsNames names _ = Unit {0}
+
+abbrev pub AllKeepNames : List (List ℕ) → List Seat → Type 0
+AllKeepNames names seats = AllAre (λ place. KeepsNames names) seats
+
 -- this has happened at each of them
 pub record AreEach (R : ℕ → Seat → Seat → Type 0) (befores afters : List Seat) : Type 0 where
   pub len : length afters ≡ length befores
@@ -134,6 +142,11 @@ pub record TellAll (v w : Knowing) (befores afters : List Seat) : Type 0 where
   pub held : IsHeld v (flat_map knows_at befores) → IsHeld w (flat_map knows_at afters)
 
 -- The users of a block do their lines.
+
+-- of the ports that they save the frames are kept
+abbrev pub CanSave : List Line → Seat → Type 0
+CanSave lines (There p fault) = AllSaveNamed p.names (map act_of lines)
+CanSave lines _ = Unit {0}
 
 abbrev pub HasRun : (List ℕ → List (List ℕ)) → List Line → Seat → Seat → Type 0
 HasRun records lines (There p fault) after = (q : PlayerState) × ((stop : Option StepFault) × ((after ≡ There q stop) × RunsLines records lines p q stop))

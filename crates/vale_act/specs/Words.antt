@@ -5,7 +5,7 @@ pub use Rattle.vale_captures.specs.Inputs.{frames_of, name_of}
 pub use Rattle.vale_captures.specs.Outputs.{IsShortRecord, IsWritable}
 pub use Rattle.vale_entry.specs.declared.entry.Entry.{Entry}
 pub use Rattle.vale_fabric.specs.Fabrics.{IsPassIn, fixed_in, knowing}
-pub use Rattle.vale_player.specs.Deeds.{AreDoable, IsDoable}
+pub use Rattle.vale_player.specs.Deeds.{AllSaveNamed, AreDoable, IsDoable, SavesNamed}
 pub use Rattle.vale_player.specs.Inputs.{captures_of, names_of, records_in}
 pub use Rattle.vale_player.specs.Kept.{AreWhole, Keeps, KeepsAll, KeepsMore, KeepsWhole, KeptFrames}
 pub use Rattle.vale_replay.specs.Machine.{Machine}

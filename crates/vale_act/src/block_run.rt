@@ -1,10 +1,11 @@
 //! The lines of a block: each user does its own on a thread.
-ghost use Rattle.std.specs.Prelude.{◌≡◌, OnOk, IfErr, length};
+ghost use Rattle.std.specs.Prelude.{◌≡◌, OnOk, IfErr, length, map};
 ghost use Rattle.std.specs.List.{AllByRecursion};
 ghost use Rattle.vale_script.specs.declared.script.Unit.TheVariants as parts;
-ghost use Rattle.vale_act.specs.Words.{AreDoable, fixed_in, knowing, records_in, shares_of};
+ghost use Rattle.vale_act.specs.Words.{AllSaveNamed, AreDoable, act_of, fixed_in, knowing, records_in};
+ghost use Rattle.vale_act.specs.Words.{shares_of};
 ghost use Rattle.vale_act.specs.Leaving.{CanStillLeave};
-ghost use Rattle.vale_act.specs.Seats.{AreOnFabric, MeetAll, TellAll, HasRun, AreEach, AllAre, AreSeated, IsDeedLine, UnitAt, fault_at, HasNoFault, IsFirstFault};
+ghost use Rattle.vale_act.specs.Seats.{AllKeepNames, AreOnFabric, CanSave, MeetAll, TellAll, HasRun, AreEach, AllAre, AreSeated, IsDeedLine, UnitAt, fault_at, HasNoFault, IsFirstFault};
 
 use crate::scene::{Ended, Scene};
 use crate::seat::Seat;
@@ -20,7 +21,8 @@ use vale_script::Line;
 impl<'f> Seat<'f> {
     /// The user does its own lines, and keeps the fault that stops it.
     fn run_lines<R: Wait, G: Gate>(&mut self, rt: &R, lines: &[Line], inputs: &Inputs, gate: &G)
-        requires { AreDoable lines.now }
+        requires doable { AreDoable lines.now }
+        requires saves { CanSave lines.now self.old }
         ensures { HasRun (records_in inputs.now) lines.now self.old self.new }
     {
         if let Seat::There { player, fault: _ } = self {
@@ -86,7 +88,8 @@ fn run_all<R: Threads + Wait + Sync, G: Gate>(
     inputs: &Inputs,
     gate: &G,
 )
-    requires { AreDoable lines.now }
+    requires doable { AreDoable lines.now }
+    requires saves { AllAre (λ place. CanSave lines.now) seats.old }
     ensures { AreEach (λ place. HasRun (records_in inputs.now) lines.now) seats.old seats.new }
 {
     if seats.is_empty() {
@@ -98,7 +101,8 @@ fn run_all<R: Threads + Wait + Sync, G: Gate>(
         seats,
         threads,
         &|_: usize, seat: &mut Seat|
-            requires { AreDoable lines.now }
+            requires doable { AreDoable lines.now }
+            requires saves { CanSave lines.now seat.old }
             ensures { HasRun (records_in inputs.entry.now) lines.entry.now seat.old seat.new }
         {
             seat.run_lines(rt, lines, inputs, gate);
@@ -115,11 +119,14 @@ impl<'f, R: Threads + Wait + Sync, G: Gate> Scene<'f, R, G> {
         requires seated { AreSeated seats.old }
         requires doable { AreDoable lines.now }
         requires deeds { AllByRecursion IsDeedLine lines.now }
+        requires keep { AllKeepNames self.now.names.now seats.old }
+        requires saves { AllSaveNamed self.now.names.now (map act_of lines.now) }
         ensures on { AreOnFabric self.now.fabric.now main.new seats.new }
         ensures runs { UnitAt (fixed_in self.now.fabric.now)
             (shares_of (records_in self.now.inputs.now) (length seats.old) (parts.Block lines.now))
             (knowing main.old) (knowing main.new) seats.old seats.new result }
         ensures leaves { CanStillLeave (knowing main.old) (knowing main.new) seats.old seats.new }
+        ensures keep { AllKeepNames self.now.names.now seats.new }
     {
         meet_all(self.fabric, main, seats);
         run_all(self.rt, self.fabric, seats, lines, self.inputs, self.gate);

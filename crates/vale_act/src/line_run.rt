@@ -3,9 +3,10 @@ ghost use Rattle.std.specs.Prelude.{◌≡◌, ◌≤◌, ℕ, true, false, List
 ghost use Rattle.vale_script.specs.declared.script.Act.TheVariants as acts;
 ghost use Rattle.vale_script.specs.declared.script.Unit.TheVariants as parts;
 ghost use Rattle.vale_act.specs.declared.seat.Seat.TheVariants.{Away};
-ghost use Rattle.vale_act.specs.Words.{IsDoable, IsPassIn, fixed_in, knowing, records_in, shares_of};
+ghost use Rattle.vale_act.specs.Words.{IsDoable, IsPassIn, SavesNamed, fixed_in, knowing, records_in};
+ghost use Rattle.vale_act.specs.Words.{shares_of};
 ghost use Rattle.vale_act.specs.Leaving.{CanStillLeave, SeatStillLeaves};
-ghost use Rattle.vale_act.specs.Seats.{Comes, ComesNot, HasActed, LineAt, UnitAt, line_tasks, AreOnFabric, AreSeated, IsDeed, IsOnFabric, IsSeated};
+ghost use Rattle.vale_act.specs.Seats.{AllKeepNames, KeepsNames, Comes, ComesNot, HasActed, LineAt, UnitAt, line_tasks, AreOnFabric, AreSeated, IsDeed, IsOnFabric, IsSeated};
 
 use crate::scene::{Ended, Scene};
 use crate::seat::Seat;
@@ -24,6 +25,7 @@ impl<'f, R: Wait, G> Scene<'f, R, G> {
         ensures pass { IsPassIn self.now.fabric.now main.new }
         ensures comes { IfOk result (Comes self.now.fabric.now number (knowing main.old)
             (knowing main.new)) }
+        ensures names { IfOk result (λ player. player.names ≡ self.now.names.now) }
         ensures not { IfErr result (ComesNot (fixed_in self.now.fabric.now) number
             (knowing main.old) (knowing main.new)) }
     {
@@ -59,6 +61,7 @@ impl<'f> Seat<'f> {
             number (line_tasks records acts.Enter) (knowing main.old) (knowing main.new)
             self.old self.new result }
         ensures leaves { SeatStillLeaves (knowing main.old) (knowing main.new) self.old self.new }
+        ensures keep { KeepsNames scene.now.names.now self.new }
     {
         match scene.come(main, number) {
             Ok(player) => {
@@ -76,7 +79,9 @@ impl<'f> Seat<'f> {
 
     /// The user does what a line says; it does nothing where it is not there.
     fn act<R: Wait, G: Gate>(&mut self, scene: &Scene<'f, R, G>, line: &Line) -> Ended
-        requires { IsDoable line.now.act }
+        requires doable { IsDoable line.now.act }
+        requires keep { KeepsNames scene.now.names.now self.old }
+        requires saves { SavesNamed scene.now.names.now line.now.act }
         ensures { HasActed (records_in scene.now.inputs.now) line.now.act result
             self.old self.new }
     {
@@ -96,11 +101,14 @@ impl<'f> Seat<'f> {
         requires on { IsOnFabric scene.now.fabric.now main.old self.old }
         requires seated { IsSeated line.now.user self.old }
         requires doable { IsDoable line.now.act }
+        requires keep { KeepsNames scene.now.names.now self.old }
+        requires saves { SavesNamed scene.now.names.now line.now.act }
         ensures on { IsOnFabric scene.now.fabric.now main.new self.new }
         ensures line { LineAt (fixed_in scene.now.fabric.now) line.now.user
             (line_tasks (records_in scene.now.inputs.now) line.now.act)
             (knowing main.old) (knowing main.new) self.old self.new result }
         ensures leaves { SeatStillLeaves (knowing main.old) (knowing main.new) self.old self.new }
+        ensures keep { KeepsNames scene.now.names.now self.new }
     {
         if self.comes_by(&line.act) {
             return self.enter(scene, main, line.user as u64);
@@ -120,11 +128,14 @@ impl<'f, R: Wait, G: Gate> Scene<'f, R, G> {
         requires least { 1 ≤ line.now.user }
         requires most { line.now.user ≤ length seats.old }
         requires doable { IsDoable line.now.act }
+        requires keep { AllKeepNames self.now.names.now seats.old }
+        requires saves { SavesNamed self.now.names.now line.now.act }
         ensures on { AreOnFabric self.now.fabric.now main.new seats.new }
         ensures runs { UnitAt (fixed_in self.now.fabric.now)
             (shares_of (records_in self.now.inputs.now) (length seats.old) (parts.Single line.now))
             (knowing main.old) (knowing main.new) seats.old seats.new result }
         ensures leaves { CanStillLeave (knowing main.old) (knowing main.new) seats.old seats.new }
+        ensures keep { AllKeepNames self.now.names.now seats.new }
     {
         let place = line.user as usize - 1;
         seats[place].run_line(self, main, line)

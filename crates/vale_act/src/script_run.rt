@@ -5,11 +5,13 @@ ghost use Rattle.std.specs.Vec.{vec_capacity};
 ghost use Rattle.vale_act.specs.Leaving.{AllHaveLeft, CanAllLeave, CanStillLeave};
 ghost use Rattle.vale_act.specs.Outputs.{outputs_of};
 ghost use Rattle.vale_act.specs.Plays.{HasWhole, PlaysScript, IsStoppedBy};
-ghost use Rattle.vale_act.specs.Seats.{AreOnFabric, AreSeated, IsAtStart, IsRunnable, UnitAt, AllAre, AreSaves, IsEmpty, ScriptDone, files_in, saves_at, AreBetween, AreNew, AreStopped, IsScriptStopped, ScriptPlayed};
+ghost use Rattle.vale_act.specs.SavedActs.{names_saved};
+ghost use Rattle.vale_act.specs.Seats.{AllKeepNames, AreOnFabric, AreSeated, IsAtStart, IsRunnable, UnitAt, AllAre, AreSaves, IsEmpty, ScriptDone, files_in, saves_at, AreBetween, AreNew, AreStopped, IsScriptStopped, ScriptPlayed};
 ghost use Rattle.vale_act.specs.Units.{knows_at};
-ghost use Rattle.vale_act.specs.Words.{AreWhole, Entry, IsPassIn, IsSound, IsWhole, IsWritable, KeepsAll, Machine};
-ghost use Rattle.vale_act.specs.Words.{captures_of, fixed_in, frames_of, knowing, name_of, names_of};
-ghost use Rattle.vale_act.specs.Words.{numbered, records_in, saves_of, shares_of};
+ghost use Rattle.vale_act.specs.Words.{AllSaveNamed, AreWhole, Entry, IsPassIn, IsSound, IsWhole, IsWritable};
+ghost use Rattle.vale_act.specs.Words.{KeepsAll, Machine, acts_of_unit, captures_of, fixed_in};
+ghost use Rattle.vale_act.specs.Words.{frames_of, knowing, name_of, names_of, numbered, records_in};
+ghost use Rattle.vale_act.specs.Words.{saves_of, shares_of};
 
 use crate::ending::close_all;
 use crate::outputs::{names_saved, outputs};
@@ -32,11 +34,14 @@ impl<'f, R: Threads + Wait + Sync, G: Gate> Scene<'f, R, G> {
         requires on { AreOnFabric self.now.fabric.now main.old seats.old }
         requires seated { AreSeated seats.old }
         requires runnable { IsRunnable (length seats.old) unit.now }
+        requires keep { AllKeepNames self.now.names.now seats.old }
+        requires saves { AllSaveNamed self.now.names.now (acts_of_unit unit.now) }
         ensures on { AreOnFabric self.now.fabric.now main.new seats.new }
         ensures runs { UnitAt (fixed_in self.now.fabric.now)
             (shares_of (records_in self.now.inputs.now) (length seats.old) unit.now)
             (knowing main.old) (knowing main.new) seats.old seats.new result }
         ensures leaves { CanStillLeave (knowing main.old) (knowing main.new) seats.old seats.new }
+        ensures keep { AllKeepNames self.now.names.now seats.new }
     {
         match unit {
             Unit::Single { line } => self.run_single(main, seats, line),
@@ -50,6 +55,8 @@ impl<'f, R: Threads + Wait + Sync, G: Gate> Scene<'f, R, G> {
         requires on { AreOnFabric self.now.fabric.now main.old seats.old }
         requires start { IsAtStart (fixed_in self.now.fabric.now) script.now self.now.inputs.now
             (knowing main.old) seats.old }
+        requires keep { AllKeepNames self.now.names.now seats.old }
+        requires names { self.now.names.now ≡ names_saved script.now }
         ensures on { AreOnFabric self.now.fabric.now main.new seats.new }
         ensures plays { OnOk result (AreBetween script.now (captures_of self.now.inputs.now)
             (length script.now.units) (knowing main.new) seats.new) }
@@ -79,6 +86,8 @@ impl<'f, R: Threads + Wait + Sync, G: Gate> Scene<'f, R, G> {
         requires on { AreOnFabric self.now.fabric.now main.old seats.old }
         requires start { IsAtStart (fixed_in self.now.fabric.now) script.now self.now.inputs.now
             (knowing main.old) seats.old }
+        requires keep { AllKeepNames self.now.names.now seats.old }
+        requires names { self.now.names.now ≡ names_saved script.now }
         ensures pass { IsPassIn self.now.fabric.now main.new }
         ensures gone { flat_map knows_at seats.new ≡ [] }
         ensures whole { IsWhole (knowing main.new).part }
@@ -168,6 +177,7 @@ impl<'f, R: Threads + Wait + Sync, G: Gate> Scene<'f, R, G> {
         requires sound { IsSound script.now }
         requires pool { script.now.pool ≡ (fixed_in self.now.fabric.now).pool }
         requires files { names_of self.now.inputs.now ≡ script.now.files }
+        requires names { self.now.names.now ≡ names_saved script.now }
         ensures pass { IsPassIn self.now.fabric.now result.0 }
         ensures whole { IsWhole (knowing result.0).part }
         ensures mine { (knowing result.0).mine ≡ numbered 1 (knowing result.0).seen }

@@ -15,10 +15,10 @@ use Rattle.vale_player.proofs.Stays.{refused-stops}
 -- ---- the same user
 
 pub still-self : (p : PlayerState) → IsStill p p
-still-self p = record { number = refl; fabric = refl; fixed = refl }
+still-self p = record { number = refl; names = refl; fabric = refl; fixed = refl }
 
 pub still-then : {p q r : PlayerState} → IsStill p q → IsStill q r → IsStill p r
-still-then one two = record { number = two.number ∙ one.number; fabric = two.fabric ∙ one.fabric; fixed = two.fixed ∙ one.fixed }
+still-then one two = record { number = two.number ∙ one.number; names = two.names ∙ one.names; fabric = two.fabric ∙ one.fabric; fixed = two.fixed ∙ one.fixed }
 
 -- ---- tasks and tasks behind them
 

@@ -1,6 +1,7 @@
 -- What is kept of a session's ports, call by call.
 use Rattle.std.proofs.Common.{ℕ, ◌+◌, ◌≤◌, ◌≡◌, ◌==◌, Bool, true, false, cond, List, [], ◌∷◌, ◌++◌, map, drop, length, slice_get, Option, Some, None, option_map, IfSome, Result, Ok, Err, IfOk, IfErr, refl, sym, ◌∙◌, ap, subst, le_refl, append_assoc, append-nil}
 use Rattle.std.specs.Prelude.{OnOk}
+use Rattle.std.specs.List.{AllByRecursion}
 use Rattle.std.proofs.lemmas.Bool.{eqb-true, eq-eqb}
 use Rattle.std.proofs.lemmas.List.{map-append, drop_all}
 use Rattle.std.proofs.lemmas.Option.{same_Some}
@@ -58,11 +59,12 @@ use Rattle.vale_replay.specs.Tasks.{TakeFrames}
 use Rattle.vale_player.specs.Players.{PlayerState, Does, StopsAt, IsStill}
 use Rattle.vale_player.proofs.Leading.{PortAt, takes-by, still-rx, still-untaken, take-stops}
 use Rattle.vale_player.specs.Kept.{record_of}
-use Rattle.vale_player.specs.Kept.{KeptFrames, IsKept, AreKept, IsKeeping, SavesNot, SaveNothing, ReceivesNothing, CameRx, stop_of_end, record_at, new_records, grown_if, AreWhole, KeptStaysWhole}
+use Rattle.vale_player.specs.Kept.{KeptFrames, IsKept, AreKept, IsKeeping, KeepsNamed, SavesNot, SaveNothing, ReceivesNothing, CameRx, stop_of_end, record_at, new_records, grown_if, AreWhole, KeptStaysWhole}
 use Rattle.vale_player.proofs.SavingFrames.{silent, saved-begin, calls-save-nothing, syncs-save-nothing, refused-save-nothing, ring-is-saved}
 use Rattle.vale_player.proofs.SavingSyncs.{transmits, other-receives-save-nothing, failed-receives-save-nothing}
 use Rattle.vale_player.proofs.SavingLeaving.{detach-saves-nothing, leaving-saves-nothing, left-ports-are-gone, gone-save-nothing, gone-owner, owned-gone}
 use Rattle.vale_player.proofs.Stays.{saw-more}
+use Rattle.vale_player.proofs.PortNames.{named-stay, edited-ports}
 
 -- ---- the session goes on
 
@@ -194,8 +196,12 @@ kept-if-stay : (s t : SessionState) (kept : Option (List KeptFrames)) → SaveNo
 kept-if-stay s t None none all = tt
 kept-if-stay s t (Some ports) none all = kept-stay s t ports none all
 
-pub keeping : {saves : List Save} (s t : SessionState) (kept : Option (List KeptFrames)) → IsThere None t → SaveNothing s t → IsKeeping s saves kept → IsKeeping t saves kept
-keeping {saves} s t kept there none all = record { there = there; all = kept-if-stay s t kept none all.all; noted = all.noted }
+-- each port of a name is kept where it was, and others may be kept beside
+abbrev pub NamedStay : SessionState → SessionState → List (List ℕ) → Option (List KeptFrames) → Type 0
+NamedStay s t names kept = AllByRecursion (KeepsNamed names kept) s.own.ports → AllByRecursion (KeepsNamed names kept) t.own.ports
+
+pub keeping : {names : List (List ℕ)} {saves : List Save} (s t : SessionState) (kept : Option (List KeptFrames)) → IsThere None t → SaveNothing s t → NamedStay s t names kept → IsKeeping s names saves kept → IsKeeping t names saves kept
+keeping {names} {saves} s t kept there none stay all = record { there = there; all = kept-if-stay s t kept none all.all; named = stay all.named; noted = all.noted }
 
 -- ---- a receive sync
 
@@ -320,16 +326,26 @@ all-records frames entry place done all past before =
 
 -- ---- on the session's own side, and of its pass
 
-pub edited-keeping : {saves : List Save} (s t : SessionState) (own : OwnState) (kept : Option (List KeptFrames)) → t ≡ record s { own = own } → IsThere None t → IsKeeping s saves kept → IsKeeping t saves kept
-edited-keeping {saves} s t own kept made there all = keeping s t kept there (λ id k. subst (λ (x : SessionState). SavesNot s x id) (sym made) (record { port = k; saved = refl })) all
+-- its own side stays
+beside : (s t : SessionState) (w : Knowing) (names : List (List ℕ)) (kept : Option (List KeptFrames)) → t ≡ record s { knows = w } → NamedStay s t names kept
+beside s t w names kept made all = subst (λ (x : SessionState). AllByRecursion (KeepsNamed names kept) x.own.ports) (sym made) all
 
-pub forked-keeping : {saves : List Save} (s t : SessionState) (kept : Option (List KeptFrames)) → t ≡ record s { knows = kept_view s.knows } → IsThere None t → IsKeeping s saves kept → IsKeeping t saves kept
-forked-keeping {saves} s t kept made there all = keeping s t kept there (λ id k. subst (λ (x : SessionState). SavesNot s x id) (sym made) (record { port = k; saved = refl })) all
+module _ {names : List (List ℕ)} {saves : List Save} where
+  pub edited-keeping : (s t : SessionState) (own : OwnState) (kept : Option (List KeptFrames)) → t ≡ record s { own = own } → IsThere None t → IsKeeping s names saves kept → IsKeeping t names saves kept
+  edited-keeping s t own kept made there all =
+      keeping s t kept there (λ id k. subst (λ (x : SessionState). SavesNot s x id) (sym made) (record { port = k; saved = refl }))
+      (named-stay names kept s t (edited-ports s t own made all.there there)) all
 
-pub met-keeping : {saves : List Save} (s t : SessionState) (w : Knowing) (kept : Option (List KeptFrames)) → t ≡ record s { knows = w } → Knows root_of t.knows.seen s.knows.seen s.knows.mine → IsThere None t → IsKeeping s saves kept → IsKeeping t saves kept
-met-keeping {saves} s t w kept made known there all =
-    keeping s t kept there (subst (λ (x : SessionState). SaveNothing s x) (sym made)
-    (joined-saves s w all.there (subst (λ (x : SessionState). Knows root_of x.knows.seen s.knows.seen s.knows.mine) made known) (subst (λ (x : SessionState). IsLegal x.fixed.pool x.knows.seen) made there.legal))) all
+  pub forked-keeping : (s t : SessionState) (kept : Option (List KeptFrames)) → t ≡ record s { knows = kept_view s.knows } → IsThere None t → IsKeeping s names saves kept → IsKeeping t names saves kept
+  forked-keeping s t kept made there all =
+      keeping s t kept there (λ id k. subst (λ (x : SessionState). SavesNot s x id) (sym made) (record { port = k; saved = refl })) (beside s t (kept_view s.knows) names kept made) all
+
+  pub met-keeping : (s t : SessionState) (w : Knowing) (kept : Option (List KeptFrames)) → t ≡ record s { knows = w } → Knows root_of t.knows.seen s.knows.seen s.knows.mine → IsThere None t → IsKeeping s names saves kept
+      → IsKeeping t names saves kept
+  met-keeping s t w kept made known there all =
+      keeping s t kept there (subst (λ (x : SessionState). SaveNothing s x) (sym made)
+      (joined-saves s w all.there (subst (λ (x : SessionState). Knows root_of x.knows.seen s.knows.seen s.knows.mine) made known) (subst (λ (x : SessionState). IsLegal x.fixed.pool x.knows.seen) made there.legal)))
+      (beside s t w names kept made) all
 
 -- ---- what a user makes of a receive sync
 

@@ -199,7 +199,7 @@ puts p q name bytes needs rest began first come =
 
 module _ (p q : PlayerState) (same : q ≡ record p { session = q.session }) where
   still-by : q.session.fabric ≡ p.session.fabric → q.session.fixed ≡ p.session.fixed → IsStill p q
-  still-by fabric fixed = record { number = ap (λ (x : PlayerState). x.number) same; fabric = fabric; fixed = fixed }
+  still-by fabric fixed = record { number = ap (λ (x : PlayerState). x.number) same; names = ap (λ (x : PlayerState). x.names) same; fabric = fabric; fixed = fixed }
 
   pub still-came : (ask : Ask) (end : SyncEnd) → CameOf p.session q.session ask end → IsStill p q
   still-came ask ends.Passed came = still-by came.synced.fabric came.synced.fixed
@@ -221,7 +221,7 @@ put-away p name bytes none =
     ap (λ (o : OwnState). record p { session = record p.session { own = o } }) (sym (ap (change_found (λ (id : ℕ). with_frame id bytes) p.session.own) (none-of (port_with_name p.session.own name) none)))
 
 pub still-put : (p : PlayerState) (name bytes : List ℕ) → IsStill p (with_put name bytes p)
-still-put p name bytes = record { number = refl; fabric = refl; fixed = refl }
+still-put p name bytes = record { number = refl; names = refl; fabric = refl; fixed = refl }
 
 -- ---- tasks with a sync
 

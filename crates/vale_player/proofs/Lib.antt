@@ -32,6 +32,7 @@ pub mod SavingFrames
 pub mod SavingLeaving
 pub mod SavingSyncs
 pub mod LinesRun
+pub mod PortNames
 pub mod KeptPorts
 pub mod KeptSaves
 pub mod ReceivedFrames

@@ -23,7 +23,7 @@ module _ (records : List ℕ → List (List ℕ)) (lines : List Line) where
       let no-acts : acts_of lines p.number ≡ [] = none-of lines p.number none in
       let no-tasks : tasks_of_lines records (acts_of lines p.number) ≡ [] = ap (tasks_of_lines records) no-acts in
       record {
-        still = record { number = refl; fabric = refl; fixed = refl };
+        still = record { number = refl; names = refl; fabric = refl; fixed = refl };
         does = λ is rest began first come. subst (λ (ts : List Task). HasCome began first p.session (machine_of p (ts ++ rest))) no-tasks come;
         stops = λ fault is. absurd cc;
         idle = λ is. (refl, refl);

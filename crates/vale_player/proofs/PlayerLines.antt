@@ -49,12 +49,12 @@ pub change-then : (p q : PlayerState) (act : Act) (task : Task) (r : Result (Uni
 change-then p q act task (Ok x) call = record {
   does = does-line p q (ChangeOwn act ∷ task ∷ []) (does-then p (with_act act p) q (ChangeOwn act ∷ []) (task ∷ []) (changed p act) call.does);
   stops = tt;
-  still = record { number = call.still.number; fabric = call.still.fabric; fixed = call.still.fixed };
+  still = record { number = call.still.number; names = call.still.names; fabric = call.still.fabric; fixed = call.still.fixed };
 }
 change-then p q act task (Err fault) call = record {
   does = tt;
   stops = does-stops p (with_act act p) q (ChangeOwn act ∷ []) (task ∷ []) fault (changed p act) (stops-at (with_act act p) q task [] fault call.there call.stops);
-  still = record { number = call.still.number; fabric = call.still.fabric; fixed = call.still.fixed };
+  still = record { number = call.still.number; names = call.still.names; fabric = call.still.fabric; fixed = call.still.fixed };
 }
 
 -- a line is done, or stops, as its act says

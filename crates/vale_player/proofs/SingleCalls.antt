@@ -75,7 +75,7 @@ module _ (p q : PlayerState) (task : Task) (ask : Ask) (here : IsThere None p.se
       made = λ reply made. record {
         does = does-single reply one made;
         stops = tt;
-        still = record { number = ap (λ (x : PlayerState). x.number) same; fabric = made.fabric; fixed = made.fixed };
+        still = record { number = ap (λ (x : PlayerState). x.number) same; names = ap (λ (x : PlayerState). x.names) same; fabric = made.fabric; fixed = made.fixed };
         there = here;
       };
       none = λ fault none. record {
@@ -83,6 +83,7 @@ module _ (p q : PlayerState) (task : Task) (ask : Ask) (here : IsThere None p.se
         stops = record { ask = ask; calls = calls; none = none; same = same };
         still = record {
           number = ap (λ (x : PlayerState). x.number) same;
+          names = ap (λ (x : PlayerState). x.names) same;
           fabric = ap (λ (x : SessionState). x.fabric) none.same;
           fixed = ap (λ (x : SessionState). x.fixed) none.same;
         };

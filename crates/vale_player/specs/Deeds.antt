@@ -11,6 +11,7 @@ use Rattle.vale_script.specs.declared.script.Unit.TheVariants as parts
 use Rattle.vale_script.specs.Script.{Program}
 use Rattle.vale_script.specs.Sound.{IsSoundAct, IsSound}
 use Rattle.vale_replay.specs.Tasks.{Task, TakeFrames, ChangeOwn}
+use Rattle.vale_player.specs.Kept.{is_one_of}
 
 -- a monitor watches, and is not watched
 abbrev pub IsSoundWatch : Act → Type 0
@@ -32,6 +33,14 @@ AreDoable lines = AllByRecursion IsDoableLine lines
 abbrev pub IsDoableUnit : Part → Type 0
 IsDoableUnit (parts.Single line) = IsDoableLine line
 IsDoableUnit (parts.Block lines) = AreDoable lines
+
+-- the frames that go into files are those of ports of these names
+abbrev pub SavesNamed : List (List ℕ) → Act → Type 0
+SavesNamed names (acts.Save name file) = is_one_of names name ≡ true
+SavesNamed names _ = Unit {0}
+
+abbrev pub AllSaveNamed : List (List ℕ) → List Act → Type 0
+AllSaveNamed names list = AllByRecursion (SavesNamed names) list
 
 -- what is done on the rings of ports, and not to a port
 abbrev pub IsOnRings : Act → Type 0

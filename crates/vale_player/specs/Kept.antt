@@ -1,5 +1,5 @@
 -- The frames that are kept of a session's ports while it plays.
-use Rattle.std.specs.Prelude.{ℕ, true, ◌≡◌, ◌++◌, ◌==◌, if◌then◌else◌, List, [], ◌∷◌, length, map, find, bytes_eq, Option, Some, None, IsSome, IfSome, option_map, Result, Ok, Err, Vec}
+use Rattle.std.specs.Prelude.{ℕ, Bool, true, ◌≡◌, ◌++◌, ◌==◌, if◌then◌else◌, List, [], ◌∷◌, length, map, find, bytes_eq, Option, Some, None, IsSome, IfSome, option_map, Result, Ok, Err, Vec}
 use Rattle.std.specs.List.{AllByRecursion, list_all, list_any}
 use Rattle.std.specs.Option.{option_map_or}
 use Rattle.std.specs.declared.alloc.Global.{Global}
@@ -10,7 +10,7 @@ use Rattle.nm_types.specs.declared.id.PortId.{PortId}
 use Rattle.nm_types.specs.declared.id.Side.TheVariants.{Rx}
 use Rattle.nm_types.specs.Frames.{Frame}
 use Rattle.nm_types.specs.Sendable.{is_frame}
-use Rattle.nm_types.specs.OwnPorts.{OwnRing, OwnState, ring_at}
+use Rattle.nm_types.specs.OwnPorts.{OwnPort, OwnRing, OwnState, ring_at}
 use Rattle.pcap_io.specs.declared.record.Record.{Record}
 use Rattle.vale_entry.specs.declared.entry.Entry.{Entry}
 use Rattle.vale_entry.specs.Legal.{IsLegal}
@@ -58,6 +58,14 @@ Keeps (Some kept) id = IsSome (find (λ (one : KeptFrames). one.id == id) kept)
 abbrev pub KeepsAll : Option (List KeptFrames) → List Save → Type 0
 KeepsAll kept saves = AllByRecursion (λ (save : Save). Keeps kept save.port.0) saves
 
+-- a name is one of those of whose ports the frames are kept
+abbrev pub is_one_of : List (List ℕ) → List ℕ → Bool
+is_one_of names name = list_any (λ (one : List ℕ). bytes_eq one name) names
+
+-- a port of such a name is kept
+abbrev pub KeepsNamed : List (List ℕ) → Option (List KeptFrames) → OwnPort → Type 0
+KeepsNamed names kept p = is_one_of names p.name ≡ true → Keeps kept p.id.0
+
 -- what was kept is kept still
 abbrev pub KeepsMore : Option (List KeptFrames) → Option (List KeptFrames) → Type 0
 KeepsMore before after = (id : ℕ) → Keeps before id → Keeps after id
@@ -71,11 +79,12 @@ abbrev pub both_kept : Option (List KeptFrames) → Option (List KeptFrames) →
 both_kept (Some kept) (Some more) = Some (kept ++ more)
 both_kept _ _ = None
 
--- Between two calls the session is there, and so is what is kept, with the ports of all files that are
--- noted.
-pub record IsKeeping (s : SessionState) (saves : List Save) (kept : Option (List KeptFrames)) : Type 0 where
+-- Between two calls the session is there, and so is what is kept: each of its ports that has one of the
+-- names, and the ports of all files that are noted.
+pub record IsKeeping (s : SessionState) (names : List (List ℕ)) (saves : List Save) (kept : Option (List KeptFrames)) : Type 0 where
   pub there : IsThere None s
   pub all : IfSome kept (AreKept s)
+  pub named : AllByRecursion (KeepsNamed names kept) s.own.ports
   pub noted : KeepsAll kept saves
 
 -- the port of an id is the session's still, and no more is saved of it
@@ -148,7 +157,7 @@ HasReceived own id tail (Some received) = AreReceived received (frames_from own 
 
 -- a port that was opened is kept from then on, if its name is among those whose frames are kept
 abbrev pub kept_opened : List (List ℕ) → List ℕ → Result PortId OpenFault → List KeptFrames → List KeptFrames
-kept_opened names name (Ok port) kept = if list_any (λ (one : List ℕ). bytes_eq one name) names then kept ++ record { id = port.0; records = [] } ∷ [] else kept
+kept_opened names name (Ok port) kept = if is_one_of names name then kept ++ record { id = port.0; records = [] } ∷ [] else kept
 kept_opened names name (Err fault) kept = kept
 
 -- what is kept of a port that is gone is all that it has given

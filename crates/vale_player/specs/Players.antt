@@ -70,9 +70,10 @@ Stops p q tasks fault =
     (rest : List Task) (began : Knowing) (first : Machine)
     → HasCome began first p.session (machine_of p (tasks ++ rest)) → HasStopped q.session.fixed began q.session.knows first fault
 
--- It is the same user, on the same fabric.
+-- It is the same user, on the same fabric, and the frames of the same ports are kept.
 pub record IsStill (p q : PlayerState) : Type 0 where
   pub number : q.number ≡ p.number
+  pub names : q.names ≡ p.names
   pub fabric : q.session.fabric ≡ p.session.fabric
   pub fixed : q.session.fixed ≡ p.session.fixed
 

@@ -15,7 +15,7 @@ pub use Rattle.vale_captures.specs.Inputs.{captured}
 pub use Rattle.vale_fabric.specs.Fabrics.{IsPassIn, fixed_in, knowing}
 pub use Rattle.vale_fabric.specs.Roots.{root_of}
 pub use Rattle.vale_replay.specs.Edits.{field_written}
-pub use Rattle.vale_replay.specs.Replay.{acts_of, has_line}
+pub use Rattle.vale_replay.specs.Replay.{act_of, acts_of, has_line}
 pub use Rattle.vale_replay.specs.Tasks.{FinishPort, OpenPort, PutFrame, ReadCounts, SaveFrames}
 pub use Rattle.vale_replay.specs.Tasks.{SendFrames, ShutPort, TakeFrames, WatchPort, frame_of_put}
 pub use Rattle.vale_replay.specs.Tasks.{most_to_play, played, tasks_of, tasks_of_lines}

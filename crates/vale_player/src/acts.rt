@@ -1,8 +1,9 @@
 //! What a user does that makes no call, at its ports by their names. Nothing changes where it has not
 //! a port of a name.
-ghost use Rattle.std.specs.Prelude.{◌≡◌, ◌≤◌, false, OnOk, OnErr};
+ghost use Rattle.std.specs.Prelude.{◌≡◌, ◌≤◌, true, false, OnOk, OnErr};
 ghost use Rattle.vale_script.specs.declared.script.Act.TheVariants as acts;
 ghost use Rattle.vale_player.specs.Words.{field_written, most_of};
+ghost use Rattle.vale_player.specs.Kept.{is_one_of};
 ghost use Rattle.vale_player.specs.Players.{with_act, with_save};
 
 use crate::player::{Player, SaveFile};
@@ -109,8 +110,9 @@ impl<'f> Player<'f> {
         }
     }
 
-    /// Notes a file into which the frames of a port go.
-    pub fn save(&mut self, name: &Name, file: &ScriptWord) -> Result<(), NoMemory>
+    /// Notes a file into which the frames of a port go, which are all kept.
+    pub(crate) fn save(&mut self, name: &Name, file: &ScriptWord) -> Result<(), NoMemory>
+        requires { is_one_of self.old.names name.now ≡ true }
         ensures saved { OnOk result (self.new ≡ with_save name.now file.now self.old) }
         ensures same { OnErr result (self.new ≡ self.old) }
     {
@@ -119,7 +121,6 @@ impl<'f> Player<'f> {
         };
         let file = file.clone()?;
         self.saves.reserve(1)?;
-        self.kept.want(port);
         self.saves.push_reserved(SaveFile { file, port });
         Ok(())
     }

@@ -1,12 +1,11 @@
 //! The frames that are kept of a user's ports, for the files into which they go.
-ghost use Rattle.std.specs.Prelude.{ℕ, List, ◌≡◌, ◌≤◌, ◌++◌, ◌==◌, [], ◌∷◌, find, map, option_map, length};
-ghost use Rattle.std.specs.Prelude.{Some, true, OnOk, IfOk, bytes_eq};
-ghost use Rattle.std.specs.List.{AllByRecursion, list_any};
-ghost use Rattle.std.specs.Option.{option_copied};
+ghost use Rattle.std.specs.Prelude.{◌≡◌, ◌≤◌, ◌++◌, [], ◌∷◌, map, option_map, length};
+ghost use Rattle.std.specs.Prelude.{Some, OnOk, IfOk};
+ghost use Rattle.std.specs.List.{AllByRecursion};
 ghost use Rattle.vale_captures.specs.Outputs.{IsShortRecord};
 ghost use Rattle.vale_player.specs.Words.{frames_from, most_frame_bytes};
-ghost use Rattle.vale_player.specs.Kept.{AreOrLost, AreReceived, HasReceived, Keeps, KeptFrames};
-ghost use Rattle.vale_player.specs.Kept.{both_kept, grown_if, kept_opened, kept_received, ports_in};
+ghost use Rattle.vale_player.specs.Kept.{AreOrLost, AreReceived, HasReceived, both_kept, grown_if};
+ghost use Rattle.vale_player.specs.Kept.{is_one_of, kept_opened, kept_received, ports_in};
 ghost use Rattle.vale_player.specs.Kept.{record_at, records_of};
 
 use nm_types::{Batch, Name, NoMemory, OpenFault, PortId};
@@ -142,7 +141,7 @@ fn begin(kept: Vec<KeptPort>, port: PortId) -> Result<Vec<KeptPort>, NoMemory>
 
 /// The frames of ports of a name are kept.
 fn is_named(names: &[Name], name: &Name) -> bool
-    ensures { result ≡ list_any (λ (one : List ℕ). bytes_eq one name.now) names.now }
+    ensures { result ≡ is_one_of names.now name.now }
 {
     names.iter().any(|one| one.as_bytes() == name.as_bytes())
 }
@@ -182,13 +181,6 @@ fn joined(kept: Vec<KeptPort>, others: Option<Vec<KeptPort>>) -> Option<Vec<Kept
         Ok(()) => Some(kept),
         Err(_) => None,
     }
-}
-
-/// What is kept of a port.
-fn kept_of(kept: &[KeptPort], port: PortId) -> Option<&KeptPort>
-    ensures { option_copied result ≡ find (λ (one : KeptFrames). one.id == port.0) kept.now }
-{
-    kept.iter().find(|one| one.port.0 == port.0)
 }
 
 /// The ports whose frames are kept, unless memory was wanting.
@@ -243,29 +235,6 @@ impl SavedPorts {
     {
         if let Some(kept) = self.ports.take() {
             self.ports = keep_opened(names, name, opened, kept).ok();
-        }
-    }
-
-    /// The port is kept, or memory was wanting.
-    fn has(&self, port: PortId) -> bool
-        ensures { result ≡ true → Keeps self.now port.0 }
-    {
-        let Some(kept) = &self.ports else {
-            return true;
-        };
-        match kept_of(kept, port) {
-            Some(_) => true,
-            None => false,
-        }
-    }
-
-    /// Of a port that is not kept not all frames are there. Then nothing is kept any more.
-    pub(crate) fn want(&mut self, port: PortId)
-        ensures keeps { Keeps self.new port.0 }
-        ensures kept { AreOrLost self.old self.new }
-    {
-        if !self.has(port) {
-            self.ports = None;
         }
     }
 

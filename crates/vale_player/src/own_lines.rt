@@ -1,10 +1,13 @@
 //! What a user does of its own lines.
-ghost use Rattle.std.specs.Prelude.{◌≡◌, ◌≤◌, [], ◌∷◌, length, map, replicate, OnOk, IfErr};
-ghost use Rattle.vale_player.specs.Words.{IsSoundAct, PutFrame, SaveFrames, acts_of, buffer_bytes};
-ghost use Rattle.vale_player.specs.Words.{captured, frame_of_put, has_line, tasks_of, tasks_of_lines};
+ghost use Rattle.std.specs.Prelude.{◌≡◌, ◌≤◌, [], ◌∷◌, true, length, map, replicate, OnOk, IfErr};
+ghost use Rattle.vale_player.specs.Words.{IsSoundAct, PutFrame, SaveFrames, act_of, acts_of};
+ghost use Rattle.vale_player.specs.Words.{buffer_bytes, captured, frame_of_put, has_line, tasks_of};
+ghost use Rattle.vale_player.specs.Words.{tasks_of_lines};
 ghost use Rattle.vale_player.specs.Players.{Does, DoesLine, Stops, IsStill, RunsLines, with_act};
 ghost use Rattle.vale_player.specs.Inputs.{records_in};
-ghost use Rattle.vale_player.specs.Deeds.{IsSoundWatch, AreDoable, receive_tasks};
+ghost use Rattle.vale_player.specs.Deeds.{IsSoundWatch, AreDoable, SavesNamed, AllSaveNamed};
+ghost use Rattle.vale_player.specs.Deeds.{receive_tasks};
+ghost use Rattle.vale_player.specs.Kept.{is_one_of};
 
 use crate::frames::write_frame_of_put;
 use crate::player::Player;
@@ -101,6 +104,7 @@ impl<'f> Player<'f> {
 
     /// Notes a file that gets a port's frames; want of memory stops the user.
     fn note_file(&mut self, name: &Name, file: &ScriptWord) -> Result<(), StepFault>
+        requires { is_one_of self.old.names name.now ≡ true }
         ensures does { OnOk result
             (DoesLine self.old self.new (SaveFrames name.now file.now ∷ [])) }
         ensures stops { IfErr result
@@ -150,6 +154,7 @@ impl<'f> Player<'f> {
     ) -> Result<(), StepFault>
         requires sound { IsSoundAct act.now }
         requires watch { IsSoundWatch act.now }
+        requires saves { SavesNamed self.old.names act.now }
         ensures does { OnOk result
             (DoesLine self.old self.new (tasks_of (records_in inputs.now) act.now)) }
         ensures stops { IfErr result
@@ -204,7 +209,8 @@ impl<'f> Player<'f> {
         inputs: &Inputs,
         gate: &G,
     ) -> Result<(), StepFault>
-        requires { AreDoable lines.now }
+        requires doable { AreDoable lines.now }
+        requires saves { AllSaveNamed self.old.names (map act_of lines.now) }
         ensures does { OnOk result (Does self.old self.new
             (tasks_of_lines (records_in inputs.now) (acts_of lines.now self.old.number))) }
         ensures stops { IfErr result (Stops self.old self.new
@@ -227,7 +233,8 @@ impl<'f> Player<'f> {
         inputs: &Inputs,
         gate: &G,
     ) -> Option<StepFault>
-        requires { AreDoable lines.now }
+        requires doable { AreDoable lines.now }
+        requires saves { AllSaveNamed self.old.names (map act_of lines.now) }
         ensures { RunsLines (records_in inputs.now) lines.now self.old self.new result }
     {
         if !has_line(lines, self.number) {

@@ -48,5 +48,5 @@ impl<'f> Model for Player<'f> {
 
     ghost use Rattle.vale_player.specs.Kept.{IsKeeping};
 
-    ghost invariant = { λ p. IsKeeping p.session p.saves.items p.kept };
+    ghost invariant = { λ p. IsKeeping p.session p.names.now p.saves.items p.kept };
 }

@@ -10,6 +10,7 @@ use Rattle.vale_act.proofs.KeptNotes.{files-kept}
 use Rattle.vale_act.proofs.Plays.{all-empty}
 use Rattle.vale_act.proofs.Runnable.{sound-runs}
 use Rattle.vale_act.proofs.DepartingScript.{new-leaving}
+use Rattle.vale_act.proofs.SaveNames.{away-keep}
 use Rattle.vale_act.proofs.scene.Scene.play_keeping.Goals as goal
 
 pub run_script-done-requires-clause-start : goal.run_script-done-requires-clause-start
@@ -23,6 +24,12 @@ run_script-done-requires-clause-start g c κs outlives =
       files = c.requires.files;
       pool = c.requires.pool;
     }
+
+pub run_script-done-requires-clause-keep : goal.run_script-done-requires-clause-keep
+run_script-done-requires-clause-keep g c κs outlives =
+    let made = subst (λ r. IfOk r (λ seats. AreNew (length c.users-count.result.now) seats.items)) c.in-Ok-new_seats.is c.new_seats.ensures in
+    let new : AreNew (length c.users-count.result.now) c.deref_mut.result.now = subst (λ (l : List Seat). AreNew (length c.users-count.result.now) l) (sym c.deref_mut.ensures.value) made in
+    away-keep c.args.self.now.names.now c.deref_mut.result.now new.away
 
 pub take_all_saves-saved-requires-clause-empty : goal.take_all_saves-saved-requires-clause-empty
 take_all_saves-saved-requires-clause-empty g c =

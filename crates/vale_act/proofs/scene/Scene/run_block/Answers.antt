@@ -3,6 +3,7 @@ use Rattle.vale_player.specs.Inputs.{records_in}
 use Rattle.vale_act.proofs.BlockParts.{block-held, ran-on}
 use Rattle.vale_act.proofs.BlockRuns.{block-begins, block-length, block-plays, block-seated, block-stopped, if-ok, if-err}
 use Rattle.vale_act.proofs.DepartingScript.{block-leaving}
+use Rattle.vale_act.proofs.SaveNames.{all-can-save, all-met, all-ran, all-told}
 use Rattle.vale_act.proofs.scene.Scene.run_block.Goals as goal
 
 pub tell_all-requires : goal.tell_all-requires
@@ -42,3 +43,21 @@ returns-clause-leaves g c =
     block-leaving (records_in c.args.self.now.inputs.now) c.args.lines.now (knowing c.args.main.now) (knowing c.meet_all.new.main) (knowing c.tell_all.new.main)
     c.args.seats.now c.meet_all.new.seats c.run_all.new.seats c.tell_all.new.seats
     c.meet_all.ensures.meets c.run_all.ensures c.tell_all.ensures.tells
+
+pub run_all-requires-clause-saves : goal.run_all-requires-clause-saves
+run_all-requires-clause-saves g c κs outlives =
+    let names = c.args.self.now.names.now in
+    let met = c.meet_all.new.seats in
+    all-can-save names c.args.lines.now met c.requires.saves (all-met names (knowing c.args.main.now) (knowing c.meet_all.new.main) c.args.seats.now met c.meet_all.ensures.meets c.requires.keep)
+
+pub returns-clause-keep : goal.returns-clause-keep
+returns-clause-keep g c =
+    let names = c.args.self.now.names.now in
+    let v = knowing c.args.main.now in
+    let m = knowing c.meet_all.new.main in
+    let w = knowing c.tell_all.new.main in
+    let mets = c.meet_all.new.seats in
+    let rans = c.run_all.new.seats in
+    all-told names m w rans c.tell_all.new.seats c.tell_all.ensures.tells
+    (all-ran names (records_in c.args.self.now.inputs.now) c.args.lines.now mets rans c.run_all.ensures
+    (all-met names v m c.args.seats.now mets c.meet_all.ensures.meets c.requires.keep))

@@ -2,8 +2,9 @@ use Rattle.std.proofs.Common.{◌-◌, length, refl, sym, subst, arith}
 use Rattle.std.proofs.lemmas.Option.{slice_get_read}
 use Rattle.vale_fabric.specs.Fabrics.{fixed_in, knowing}
 use Rattle.vale_player.specs.Inputs.{records_in}
-use Rattle.vale_act.specs.Seats.{LineAt, line_tasks}
+use Rattle.vale_act.specs.Seats.{KeepsNames, LineAt, line_tasks}
 use Rattle.vale_act.specs.declared.seat.Seat.{Seat}
+use Rattle.vale_act.proofs.AllSeats.{all-set}
 use Rattle.vale_act.proofs.Closings.{single-at}
 use Rattle.vale_act.specs.Leaving.{SeatStillLeaves}
 use Rattle.vale_act.proofs.DepartingScript.{seat-leaving}
@@ -29,3 +30,16 @@ returns-clause-leaves g c =
     let here = slice_get_read seats (length seats) (line.user - 1) before refl (omega (arith, c.requires.least, c.requires.most)) c.index-seats-place.is in
     seat-leaving v w seats (line.user - 1) before c.run_line.new.self here
     (subst (λ (b : Seat). SeatStillLeaves v w b c.run_line.new.self) (sym c.index-seats-place.is) c.run_line.ensures.leaves)
+
+pub run_line-requires-clause-keep : goal.run_line-requires-clause-keep
+run_line-requires-clause-keep g c κs outlives =
+    let seats = c.args.seats.now in
+    let place = c.args.line.now.user - 1 in
+    let before = c.index-seats-place.result in
+    let here = slice_get_read seats (length seats) place before refl (omega (arith, c.requires.least, c.requires.most)) c.index-seats-place.is in
+    subst (λ (b : Seat). KeepsNames c.args.self.now.names.now b) c.index-seats-place.is (c.requires.keep place before here)
+
+pub returns-clause-keep : goal.returns-clause-keep
+returns-clause-keep g c =
+    let names = c.args.self.now.names.now in
+    all-set (λ place. KeepsNames names) c.args.seats.now (c.args.line.now.user - 1) c.run_line.new.self c.requires.keep c.run_line.ensures.keep

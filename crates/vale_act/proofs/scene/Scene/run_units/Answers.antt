@@ -6,6 +6,7 @@ use Rattle.vale_script.specs.declared.script.Unit.{Unit as Part}
 use Rattle.vale_replay.specs.Replay.{shares_of}
 use Rattle.vale_player.specs.Inputs.{records_in}
 use Rattle.vale_act.specs.Seats.{UnitAt}
+use Rattle.vale_act.proofs.SaveNames.{unit-named}
 use Rattle.vale_act.proofs.Between.{between-next, between-runs, between-stops}
 use Rattle.vale_act.proofs.scene.Scene.run_units.Goals as goal
 
@@ -20,6 +21,13 @@ run_unit-requires-clause-runnable g c κs outlives =
     let at = next-unit c.units-all.result.now _ i unit c.loop-unit-test.true c.unit-item.is c.units-all.ensures in
     between-runs c.args.self.now.fabric.now c.args.script.now c.args.self.now.inputs.now c.requires.start.files c.requires.start.pool i unit (knowing c.loop-unit.main) (knowing c.loop-unit.main) c.loop-unit.seats c.loop-unit.seats at c.loop-unit.invariant.1.1 c.requires.start.runnable
 
+pub run_unit-requires-clause-saves : goal.run_unit-requires-clause-saves
+run_unit-requires-clause-saves g c κs outlives =
+    let i = c.loop-unit.unit-index in
+    let unit = c.unit-item.result in
+    let at = next-unit c.units-all.result.now _ i unit c.loop-unit-test.true c.unit-item.is c.units-all.ensures in
+    unit-named c.args.script.now c.args.self.now.names.now i unit c.requires.names at
+
 pub loop-unit-preserved : goal.loop-unit-preserved
 loop-unit-preserved g c =
     let unit = c.unit-item.result in
@@ -32,7 +40,7 @@ loop-unit-preserved g c =
         c.run_unit.ensures.on.1,
         between-next c.args.self.now.fabric.now c.args.script.now c.args.self.now.inputs.now c.requires.start.files c.requires.start.pool c.loop-unit.unit-index unit v w c.loop-unit.seats c.run_unit.new.seats at c.loop-unit.invariant.1.1 ran,
       ),
-      λ can. c.run_unit.ensures.leaves (c.loop-unit.invariant.2 can),
+      (λ can. c.run_unit.ensures.leaves (c.loop-unit.invariant.2.0 can), c.run_unit.ensures.keep),
     )
 
 pub returns-in-Err-clause-stops : goal.returns-in-Err-clause-stops
@@ -45,10 +53,10 @@ returns-in-Err-clause-stops g c =
     between-stops c.args.self.now.fabric.now c.args.script.now c.args.self.now.inputs.now c.requires.start.files c.requires.start.pool c.loop-unit.unit-index unit v w c.loop-unit.seats c.run_unit.new.seats at c.loop-unit.invariant.1.1 c.in-Err.fault ran
 
 pub loop-unit-init : goal.loop-unit-init
-loop-unit-init g c = (c.requires.on.0, (c.requires.on.1, c.requires.start.between), λ can. can)
+loop-unit-init g c = (c.requires.on.0, (c.requires.on.1, c.requires.start.between), (λ can. can, c.requires.keep))
 
 pub returns-in-Err-clause-leaves : goal.returns-in-Err-clause-leaves
-returns-in-Err-clause-leaves g c can = c.run_unit.ensures.leaves (c.loop-unit.invariant.2 can)
+returns-in-Err-clause-leaves g c can = c.run_unit.ensures.leaves (c.loop-unit.invariant.2.0 can)
 
 pub returns-clause-leaves : goal.returns-clause-leaves
-returns-clause-leaves g c = c.loop-unit.invariant.2
+returns-clause-leaves g c = c.loop-unit.invariant.2.0

@@ -1,10 +1,12 @@
-use Rattle.std.proofs.Common.{Ok, Err, IfOk, IfErr, sym, subst}
+use Rattle.std.proofs.Common.{◌≡◌, Ok, Err, None, IfOk, IfErr, sym, subst}
 use Rattle.vale_script.specs.declared.script.Act.TheVariants as acts
 use Rattle.vale_fabric.specs.Fabrics.{fixed_in, knowing}
-use Rattle.vale_act.specs.Seats.{Comes, ComesNot, LineAt, Tells, line_tasks}
+use Rattle.vale_act.specs.Seats.{Comes, ComesNot, HasTold, KeepsNames, LineAt, Tells, line_tasks}
 use Rattle.vale_act.specs.declared.seat.Seat.{Seat}
+use Rattle.vale_act.specs.declared.seat.Seat.TheVariants.{There}
 use Rattle.vale_act.proofs.Alone.{line-enters, line-not-enters}
 use Rattle.vale_act.proofs.DepartingScript.{comes-leaving, stays-leaving}
+use Rattle.vale_act.proofs.SaveNames.{kept-told}
 use Rattle.vale_act.proofs.seat.Seat.enter.Goals as goal
 
 pub returns-in-Ok-clause-line : goal.returns-in-Ok-clause-line
@@ -44,3 +46,14 @@ returns-in-Err-clause-leaves g c =
     let w = knowing c.come.new.main in
     stays-leaving fixed c.args.number v w c.in-Err.fault c.args.self.now
     (subst (λ r. IfErr r (ComesNot fixed c.args.number v w)) c.in-Err.is c.come.ensures.not)
+
+pub returns-in-Ok-clause-keep : goal.returns-in-Ok-clause-keep
+returns-in-Ok-clause-keep g c =
+    let names = c.args.scene.now.names.now in
+    let w = knowing c.tell.new.main in
+    let player = c.in-Ok.player in
+    let had = subst (λ r. IfOk r (λ p. p.names ≡ names)) c.in-Ok.is c.come.ensures.names in
+    kept-told names w (There player None) c.tell.new.self (subst (λ (s : Seat). HasTold w s c.tell.new.self) c.replace.ensures.after c.tell.ensures.tells.seat) had
+
+pub returns-in-Err-clause-keep : goal.returns-in-Err-clause-keep
+returns-in-Err-clause-keep g c = subst (KeepsNames c.args.scene.now.names.now) (sym c.requires.away) tt

@@ -5,6 +5,7 @@ use Rattle.vale_player.specs.Players.{PlayerState, Does}
 use Rattle.vale_player.proofs.Changes.{id-of}
 use Rattle.vale_player.proofs.PortCalls.{found-port, is-some}
 use Rattle.vale_player.proofs.PortsShut.{closes-does, closes-none}
+use Rattle.vale_player.proofs.PortNames.{named-left}
 use Rattle.vale_player.proofs.KeptPorts.{keeping, detach-saves}
 use Rattle.vale_player.proofs.player.Player.close.Goals as goal
 
@@ -29,4 +30,5 @@ pub invariant_of-self : goal.invariant_of-self
 invariant_of-self g c =
     let s = c.self.inside.session in
     let t = c.detach.new.self in
-    keeping s t c.self.inside.kept c.detach.ensures.there (detach-saves s t c.self.invariant.there c.detach.ensures.there c.in-Some.port.0 c.detach.result c.detach.ensures.detached) c.self.invariant
+    keeping s t c.self.inside.kept c.detach.ensures.there (detach-saves s t c.self.invariant.there c.detach.ensures.there c.in-Some.port.0 c.detach.result c.detach.ensures.detached)
+    (named-left c.self.inside.names.now c.self.inside.kept s t c.in-Some.port.0 c.detach.result c.detach.ensures.detached) c.self.invariant

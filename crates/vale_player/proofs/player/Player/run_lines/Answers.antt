@@ -1,8 +1,10 @@
-use Rattle.std.proofs.Common.{◌≡◌, ◌+◌, ◌==◌, true, drop, sym, ap, subst, ◌∙◌, eq-eqb}
+use Rattle.std.proofs.Common.{ℕ, ◌≡◌, ◌+◌, ◌==◌, true, List, drop, map, sym, ap, subst, ◌∙◌, eq-eqb}
 use Rattle.std.proofs.lemmas.Bool.{ne_eqb}
 use Rattle.std.proofs.lemmas.Result.{err_from_is_err_and}
 use Rattle.nm_types.specs.declared.fault.StepFault.{StepFault}
-use Rattle.vale_player.specs.Deeds.{AreDoable}
+use Rattle.vale_script.specs.declared.script.Line.{Line}
+use Rattle.vale_replay.specs.Replay.{act_of}
+use Rattle.vale_player.specs.Deeds.{AreDoable, AllSaveNamed, SavesNamed}
 use Rattle.vale_player.specs.Inputs.{records_in}
 use Rattle.vale_player.specs.Players.{PlayerState, Stops}
 use Rattle.vale_player.proofs.PlayerLines.{AreLeft, block_tasks, left-own, left-others, left-from, stops-own, next-left, lines-done}
@@ -41,7 +43,20 @@ loop-line-preserved g c =
       | else-line-self w ↦ subst (λ (x : PlayerState). AreLeft records p.number p x rest lines) (sym w.self-is)
           (left-others records p.number p q line rest lines before (ne_eqb line.user p.number (λ same. w.if-line-self.false (same ∙ sym number))))
     ] in
-    record { left = left; doable = (subst AreDoable (next-left lines i line c.loop-line-test.true c.line-item.is) c.loop-line.invariant.doable).1 }
+    let next = next-left lines i line c.loop-line-test.true c.line-item.is in
+    record {
+      left = left;
+      doable = (subst AreDoable next c.loop-line.invariant.doable).1;
+      saves = (subst (λ (x : List Line). AllSaveNamed p.names (map act_of x)) next c.loop-line.invariant.saves).1;
+    }
+
+pub act-requires-clause-saves : goal.act-requires-clause-saves
+act-requires-clause-saves g c κs within =
+    let p = c.args.self.now in
+    let line = c.line-item.result in
+    let next = next-left c.args.lines.now c.loop-line.line-index line c.loop-line-test.true c.line-item.is in
+    let here = (subst (λ (x : List Line). AllSaveNamed p.names (map act_of x)) next c.loop-line.invariant.saves).0 in
+    subst (λ (names : List (List ℕ)). SavesNamed names line.act) (sym c.loop-line.invariant.left.still.names) here
 
 pub returns-clause-does : goal.returns-clause-does
 returns-clause-does g c =

@@ -4,6 +4,7 @@ use Rattle.vale_player.specs.Syncing.{HasSent}
 use Rattle.vale_player.proofs.Leading.{sender-asked, sender-ring}
 use Rattle.vale_player.proofs.PutCopies.{named-before}
 use Rattle.vale_player.proofs.Sending.{has-sent}
+use Rattle.vale_player.proofs.PortNames.{named-stay, sync-ports}
 use Rattle.vale_player.proofs.KeptPorts.{keeping, sync-saves}
 use Rattle.vale_player.proofs.player.Player.send.Goals as goal
 
@@ -19,7 +20,8 @@ invariant_of-self g c =
     let s = c.self.inside.session in
     let t = c.transmit.new.session in
     keeping s t c.self.inside.kept c.transmit.ensures.there
-    (sync-saves s t c.self.invariant.there c.transmit.ensures.there c.args.port.0 c.transmit.result c.transmit.ensures.came c.transmit.ensures.none) c.self.invariant
+    (sync-saves s t c.self.invariant.there c.transmit.ensures.there c.args.port.0 c.transmit.result c.transmit.ensures.came c.transmit.ensures.none)
+    (named-stay c.self.inside.names.now c.self.inside.kept s t (sync-ports s t c.args.port.0 c.transmit.result c.transmit.ensures.came c.transmit.ensures.none)) c.self.invariant
 
 pub returns : goal.returns
 returns g c =

@@ -5,6 +5,7 @@ use Rattle.vale_replay.specs.Tasks.{Task, ReadCounts}
 use Rattle.vale_player.specs.Players.{PlayerState, HasCalled}
 use Rattle.vale_player.proofs.Changes.{id-of}
 use Rattle.vale_player.proofs.PortCalls.{found-port, is-some, passed, reads-ok, reads-err, reads-there}
+use Rattle.vale_player.proofs.PortNames.{named-stay, stat-ports}
 use Rattle.vale_player.proofs.KeptPorts.{keeping, stat-saves}
 use Rattle.vale_player.proofs.player.Player.stat.Goals as goal
 use Rattle.vale_player.proofs.player.Player.stat.Goals.{in-Ok, in-Err}
@@ -26,7 +27,8 @@ invariant_of-self g c =
     let q : PlayerState = record p { session = c.stats.new.self } in
     keeping p.session q.session c.self.inside.kept
     (reads-there p q c.self.invariant.there refl c.args.name.now c.in-Some.port (sym c.port_named.ensures ∙ c.in-Some.is) c.stats.result c.stats.ensures.made c.stats.ensures.full)
-    (stat-saves p.session q.session c.self.invariant.there c.in-Some.port c.stats.result c.stats.ensures.made c.stats.ensures.full) c.self.invariant
+    (stat-saves p.session q.session c.self.invariant.there c.in-Some.port c.stats.result c.stats.ensures.made c.stats.ensures.full)
+    (named-stay p.names c.self.inside.kept p.session q.session (stat-ports p.session q.session c.in-Some.port c.stats.result c.stats.ensures.made c.stats.ensures.full)) c.self.invariant
 
 pub returns : goal.returns
 returns g c =

@@ -38,7 +38,7 @@ invariant_of-self g c =
     let at = c.in-Some.port.0 in
     let got = c.receive-ended.result.0 in
     let kept = subst (λ (tail : ℕ). AreOrLost (option_map (kept_received t.own at tail got) c.self.inside.kept) c.receive.new.self) c.rx_tail-tail.ensures c.receive.ensures in
-    received-keeping s t at got c.self.inside.saves.items c.self.inside.kept c.receive.new.self c.receive-ended.ensures.there c.receive-ended.ensures.saves kept c.self.invariant
+    received-keeping s t at got c.self.inside.names.now c.self.inside.saves.items c.self.inside.kept c.receive.new.self c.receive-ended.ensures.there c.receive-ended.ensures.saves kept c.self.invariant
 
 pub returns : goal.returns
 returns g c =

@@ -5,6 +5,7 @@ use Rattle.vale_replay.specs.Tasks.{Task, WatchPort}
 use Rattle.vale_player.specs.Players.{PlayerState, HasCalled}
 use Rattle.vale_player.proofs.Changes.{id-of}
 use Rattle.vale_player.proofs.PortCalls.{found-port, is-monitor, passed, watches-ok, watches-err, watches-there}
+use Rattle.vale_player.proofs.PortNames.{named-stay, watch-ports}
 use Rattle.vale_player.proofs.KeptPorts.{keeping, watch-saves}
 use Rattle.vale_player.proofs.player.Player.watch.Goals as goal
 use Rattle.vale_player.proofs.player.Player.watch.Goals.{in-Ok, in-Err}
@@ -26,7 +27,8 @@ invariant_of-self g c =
     let q : PlayerState = record p { session = c.watch.new.self } in
     keeping p.session q.session c.self.inside.kept
     (watches-there p q c.self.invariant.there refl c.args.monitor.now c.in-Some.port (sym c.port_named.ensures ∙ c.in-Some.is) c.args.target.now c.args.sides c.watch.result c.watch.ensures.watched c.watch.ensures.unwatched)
-    (watch-saves p.session q.session c.self.invariant.there c.in-Some.port c.args.target.now c.args.sides c.watch.result c.watch.ensures.watched c.watch.ensures.unwatched) c.self.invariant
+    (watch-saves p.session q.session c.self.invariant.there c.in-Some.port c.args.target.now c.args.sides c.watch.result c.watch.ensures.watched c.watch.ensures.unwatched)
+    (named-stay p.names c.self.inside.kept p.session q.session (watch-ports p.session q.session c.in-Some.port c.args.target.now c.args.sides c.watch.result c.watch.ensures.watched c.watch.ensures.unwatched)) c.self.invariant
 
 pub returns : goal.returns
 returns g c =

@@ -33,5 +33,5 @@ returns c =
       some = λ has. some-copies c.args.count count port.0 bytes p.session.own copies (subst (λ (x : PlayerState). has_room x.session.own port.0 bytes ≡ true) (sym c.self.view_is) has);
       most = copies.most;
       still = subst (λ (x : PlayerState). IsStill x (record p { session = c.put_copies.new.self })) c.self.view_is
-          (subst (λ (s : SessionState). IsStill p (record p { session = s })) own (record { number = refl; fabric = refl; fixed = refl }));
+          (subst (λ (s : SessionState). IsStill p (record p { session = s })) own (record { number = refl; names = refl; fabric = refl; fixed = refl }));
     }
