@@ -1,5 +1,5 @@
 ghost use Rattle.std.specs.Prelude.{◌≡◌, ◌+◌, All, length, map, IfOk, OnOk};
-ghost use Rattle.vale_batch.specs.Looking.{IsFrame};
+ghost use Rattle.nm_types.specs.Sendable.{IsFrame};
 ghost use Rattle.vale_batch.specs.Wants.{IsRising, port_number};
 ghost use Rattle.bench.specs.Ports.{first_ports};
 

@@ -1,5 +1,5 @@
 ghost use Rattle.std.specs.Prelude.{◌≡◌, ◌+◌, ◌-◌, ◌*◌, ◌<◌, ◌≤◌, min};
-ghost use Rattle.nm_types.specs.Limits.{most_frame_bytes};
+ghost use Rattle.nm_types.specs.Limits.{buffer_bytes, most_frame_bytes};
 ghost use Rattle.nm_frag.specs.Parts.{slots_of_length};
 
 use nm_types::BUFFER_BYTES;
@@ -9,10 +9,10 @@ use nm_types::BUFFER_BYTES;
 pub fn part(len: usize, k: u32) -> (usize, usize)
     requires frame { len ≤ most_frame_bytes }
     requires there { k < slots_of_length len }
-    ensures place { result.0 ≡ 2048 * k }
-    ensures length { result.1 ≡ min 2048 (len - 2048 * k) }
+    ensures place { result.0 ≡ buffer_bytes * k }
+    ensures length { result.1 ≡ min buffer_bytes (len - buffer_bytes * k) }
     ensures within { result.0 + result.1 ≤ len }
-    ensures full { k + 1 < slots_of_length len → result.1 ≡ 2048 }
+    ensures full { k + 1 < slots_of_length len → result.1 ≡ buffer_bytes }
     ensures last { k + 1 ≡ slots_of_length len → result.0 + result.1 ≡ len }
 {
     let start = BUFFER_BYTES * k as usize;

@@ -9,10 +9,10 @@ use Rattle.nm_types.specs.Positions.{IsRing, dist, slots_from}
 use Rattle.nm_types.specs.Slots.{SlotState}
 use Rattle.nm_types.specs.SyncChecks.{ring_refusal}
 use Rattle.nm_types.specs.OwnPorts.{OwnRing, OwnState, ring_at, slot_in}
-use Rattle.nm_types.specs.OwnEdits.{has_slots, with_slot_forwarded, with_heads_forwarded, with_slots_forwarded, slots_before_tail, frame_slots, can_forward, with_next_forwarded, with_forwarded}
+use Rattle.nm_types.specs.OwnEdits.{has_slots, with_slot_forwarded, with_heads_forwarded, with_slots_forwarded, slots_to_end, slots_before_tail, frame_slots, can_forward, with_next_forwarded, frames_forwarded}
 use Rattle.nm_types.proofs.Tests.{both_are, less_true}
 use Rattle.nm_hold.specs.Holds.{HoldState}
-use Rattle.nm_port.specs.RingSlots.{RingSlots, slot_at, slots_ahead, slots_to_end, frame_ahead}
+use Rattle.nm_port.specs.RingSlots.{RingSlots, slot_at, slots_ahead, frame_ahead}
 use Rattle.nm_port.specs.Own.{ring_seen}
 use Rattle.nm_port.proofs.FrameEnds.{ends_within}
 use Rattle.nm_port.proofs.Judging.{length-slots}
@@ -33,30 +33,30 @@ next_is others whole from to s (Some rx) (Some tx) = one (can_forward whole rx t
     one false e = refl
 
 forward_more : (whole : Bool) (n from to : ℕ) (s : OwnState) → 0 < n → nat_lt 0 (slots_to_go_at whole from to s) ≡ true
-    → with_forwarded whole n from to s ≡ with_forwarded whole (n - 1) from to (with_slots_forwarded (slots_to_go_at whole from to s) from to s)
+    → frames_forwarded whole n from to s ≡ frames_forwarded whole (n - 1) from to (with_slots_forwarded (slots_to_go_at whole from to s) from to s)
 forward_more whole zero from to s some moved = absurd (omega arith)
 forward_more whole (suc n) from to s some moved =
     let rest : suc n - 1 ≡ n = omega arith in
-    next_is (with_forwarded whole n from to) whole from to s (ring_at Rx s from) (ring_at Tx s to) ∙ rw (moved, rest) refl
+    next_is (frames_forwarded whole n from to) whole from to s (ring_at Rx s from) (ring_at Tx s to) ∙ rw (moved, rest) refl
 
-forward_none : (whole : Bool) (n from to : ℕ) (s : OwnState) → nat_lt 0 (slots_to_go_at whole from to s) ≡ false → with_forwarded whole n from to s ≡ s
+forward_none : (whole : Bool) (n from to : ℕ) (s : OwnState) → nat_lt 0 (slots_to_go_at whole from to s) ≡ false → frames_forwarded whole n from to s ≡ s
 forward_none whole zero from to s moved = refl
-forward_none whole (suc n) from to s moved = next_is (with_forwarded whole n from to) whole from to s (ring_at Rx s from) (ring_at Tx s to) ∙ rw moved refl
+forward_none whole (suc n) from to s moved = next_is (frames_forwarded whole n from to) whole from to s (ring_at Rx s from) (ring_at Tx s to) ∙ rw moved refl
 
 none_to_go : (n : ℕ) → nat_lt 0 n ≡ false → n ≡ 0
 none_to_go n e = grind (arith, nat_tests)
 
 -- a frame more that was forwarded, and one that was not
 pub forwards_on : (whole : Bool) (k count from to : ℕ) (old now next : OwnState) (moved : Bool) → moved ≡ nat_lt 0 (slots_to_go_at whole from to now) → next ≡ with_slots_forwarded (slots_to_go_at whole from to now) from to now
-    → moved ≡ true → k < count → with_forwarded whole (count - k) from to now ≡ with_forwarded whole count from to old → with_forwarded whole (count - (k + 1)) from to next ≡ with_forwarded whole count from to old
+    → moved ≡ true → k < count → frames_forwarded whole (count - k) from to now ≡ frames_forwarded whole count from to old → frames_forwarded whole (count - (k + 1)) from to next ≡ frames_forwarded whole count from to old
 forwards_on whole k count from to old now next moved is after e below so_far =
     let rest : count - k - 1 ≡ count - (k + 1) = omega arith in
     let here = forward_more whole (count - k) from to now (omega arith) (sym is ∙ e) in
-    ap (with_forwarded whole (count - (k + 1)) from to) after
-    ∙ (ap (λ (n : ℕ). with_forwarded whole n from to (with_slots_forwarded (slots_to_go_at whole from to now) from to now)) (sym rest) ∙ (sym here ∙ so_far))
+    ap (frames_forwarded whole (count - (k + 1)) from to) after
+    ∙ (ap (λ (n : ℕ). frames_forwarded whole n from to (with_slots_forwarded (slots_to_go_at whole from to now) from to now)) (sym rest) ∙ (sym here ∙ so_far))
 
 pub forwards_no_more : (whole : Bool) (k count from to : ℕ) (old now next : OwnState) (moved : Bool) → moved ≡ nat_lt 0 (slots_to_go_at whole from to now) → next ≡ with_slots_forwarded (slots_to_go_at whole from to now) from to now
-    → moved ≡ false → with_forwarded whole (count - k) from to now ≡ with_forwarded whole count from to old → next ≡ with_forwarded whole count from to old
+    → moved ≡ false → frames_forwarded whole (count - k) from to now ≡ frames_forwarded whole count from to old → next ≡ frames_forwarded whole count from to old
 forwards_no_more whole k count from to old now next moved is after e so_far =
     let none : slots_to_go_at whole from to now ≡ 0 = none_to_go (slots_to_go_at whole from to now) (sym is ∙ e) in
     let same : next ≡ now = after ∙ ap (λ (n : ℕ). with_slots_forwarded n from to now) none in

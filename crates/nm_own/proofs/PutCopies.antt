@@ -25,7 +25,7 @@ use Rattle.std.specs.Vec.{with_item}
 use Rattle.nm_own.specs.declared.own.OwnSide.TheInside.{Inside}
 use Rattle.nm_own.specs.Kept.{IsKept}
 use Rattle.nm_own.specs.Edits.{edited, ring_framed, port_edited_if}
-use Rattle.nm_own.specs.Acts.{has_slot, head_slot_in}
+use Rattle.nm_own.specs.Acts.{head_slot_in}
 use Rattle.nm_own.specs.Copies.{with_copies, FindRoom, AreCopies}
 use Rattle.nm_own.specs.CopiesIn.{ring_behind, named_at_head, IsFronted, AreWritten, ArePutOn}
 use Rattle.nm_own.specs.LentSlots.{index_of_port}
@@ -157,9 +157,9 @@ record AreBehind (size count : ℕ) (h new : HoldState) (ports : List UserPort) 
   regions : regions_in (bufs_of new) ≡ regions_in (bufs_of h)
   room : FindRoom count id bytes (own_seen h ports)
 
-has_room_there : (h : HoldState) (ports : List UserPort) (port : PortId) (r : RingSlots) (bytes : List ℕ) → AreRings ports → length bytes ≤ 2048 → slots_at Tx ports port.0 ≡ Some r → has_room (own_seen h ports) port.0 bytes ≡ head_has_slot r.ring
+has_room_there : (h : HoldState) (ports : List UserPort) (port : PortId) (r : RingSlots) (bytes : List ℕ) → AreRings ports → length bytes ≤ 2048 → slots_at Tx ports port.0 ≡ Some r → has_room (own_seen h ports) port.0 (length bytes) ≡ head_has_slot r.ring
 has_room_there h ports port r bytes rings few there =
-    room_short (own_seen h ports) port.0 bytes (rings_seen Tx h ports port rings) few ∙ ap (λ (o : Option OwnRing). option_map_or has_slot o false) (ring_found h ports Tx port r there)
+    room_short (own_seen h ports) port.0 bytes (rings_seen Tx h ports port rings) few ∙ ap (λ (o : Option OwnRing). option_map_or (λ (q : OwnRing). head_has_slot q.ring) o false) (ring_found h ports Tx port r there)
 
 module _ (size : ℕ) (h : HoldState) (ports : List UserPort) (port : PortId) (r : RingSlots) (bytes : List ℕ) (sound : AreSound size h ports) (few : length bytes ≤ 2048) (there : slots_at Tx ports port.0 ≡ Some r) where
   written_so_often : (count : ℕ) (new : HoldState) → AreWritten count bytes r h new → AreBehind size count h new ports port.0 bytes
@@ -185,13 +185,13 @@ module _ (size : ℕ) (h : HoldState) (ports : List UserPort) (port : PortId) (r
         sound = subst (λ (ps : List UserPort). AreSound size new ps) more next;
         seen = ap (own_seen new) (sym more) ∙ (seen ∙ ap (with_frame id bytes) b.seen);
         regions = regions_same size was new now (named_at_head ring) bytes b.sound few fronted ∙ b.regions;
-        room = (b.room, ap (λ (s : OwnState). has_room s id bytes) (sym b.seen) ∙ (has_room_there was now port ring bytes b.sound.rings few here ∙ has));
+        room = (b.room, ap (λ (s : OwnState). has_room s id (length bytes)) (sym b.seen) ∙ (has_room_there was now port ring bytes b.sound.rings few here ∙ has));
       }
 
-  full_behind : (count : ℕ) (new : HoldState) → AreWritten count bytes r h new → head_has_slot (ring_behind count (length bytes) r).ring ≡ false → has_room (with_copies count port.0 bytes (own_seen h ports)) port.0 bytes ≡ false
+  full_behind : (count : ℕ) (new : HoldState) → AreWritten count bytes r h new → head_has_slot (ring_behind count (length bytes) r).ring ≡ false → has_room (with_copies count port.0 bytes (own_seen h ports)) port.0 (length bytes) ≡ false
   full_behind count new written none =
       let b = written_so_often count new written in
-      ap (λ (s : OwnState). has_room s port.0 bytes) (sym b.seen)
+      ap (λ (s : OwnState). has_room s port.0 (length bytes)) (sym b.seen)
       ∙ (has_room_there new (ports_behind count (length bytes) port.0 ports) port (ring_behind count (length bytes) r) bytes b.sound.rings few (ring_there count (length bytes) port.0 ports r there) ∙ none)
 
 -- where there is no ring there is no room

@@ -8,7 +8,7 @@ use Rattle.std.proofs.lemmas.Option.{same_Some}
 use Rattle.nm_types.specs.declared.id.PortId.{PortId}
 use Rattle.nm_types.specs.declared.id.Side.{Side}
 use Rattle.nm_types.specs.declared.id.Side.TheVariants.{Tx, Rx}
-use Rattle.nm_types.specs.Positions.{RingState, IsRing, dist}
+use Rattle.nm_types.specs.Positions.{IsRing, dist}
 use Rattle.nm_types.specs.SyncChecks.{ring_refusal}
 use Rattle.nm_types.specs.OwnPorts.{OwnRing, OwnState, ring_at}
 use Rattle.nm_types.specs.OwnEdits.{has_slots, has_room}
@@ -16,10 +16,10 @@ use Rattle.nm_types.proofs.PartLemmas.{slots-one}
 use Rattle.nm_types.proofs.RingSteps.{dist-cases, dist_self}
 use Rattle.nm_hold.specs.Holds.{HoldState}
 use Rattle.nm_port.specs.declared.port.UserPort.{UserPort}
-use Rattle.nm_port.specs.RingSlots.{RingSlots, slots_ahead}
+use Rattle.nm_port.specs.RingSlots.{RingSlots, slots_ahead, head_has_slot}
 use Rattle.nm_port.specs.Own.{own_seen, ring_seen, slots_at, AreRings}
 use Rattle.nm_port.proofs.Checked.{ring_found, ring_not_found, tx_ring_found}
-use Rattle.nm_own.specs.Acts.{has_slot, IsRingAt}
+use Rattle.nm_own.specs.Acts.{IsRingAt}
 use Rattle.nm_own.proofs.Offered.{rx_ring_found}
 use Rattle.nm_own.proofs.SlotsAhead.{fits_is}
 
@@ -43,7 +43,7 @@ one_before size head tail within last = elim (cases_eq head tail) [
     apart zero size head tail within last (inr e) other = absurd (omega (arith, e))
     apart (suc d) size head tail within last there other = omega arith
 
-pub has_slots-one : (r : OwnRing) → IsRing r.ring → has_slots 1 r ≡ has_slot r
+pub has_slots-one : (r : OwnRing) → IsRing r.ring → has_slots 1 r ≡ head_has_slot r.ring
 has_slots-one r is = elim (cases_Bool (is_none (ring_refusal r.ring r.ring.head r.ring.cur))) [
   | inl e ↦ rw (e, one_before r.ring.size r.ring.head r.ring.tail (fits_is r.ring e).head_within is.within) refl
   | inr e ↦ rw e refl
@@ -70,9 +70,9 @@ rings_seen side h ports port rings r at = by_ring (slots_at side ports port.0) r
         rw (← same) (by_side side q there)
 
 -- room for a frame that fits a buffer
-pub room_short : (s : OwnState) (id : ℕ) (bytes : List ℕ) → IsRingAt Tx s id → length bytes ≤ 2048 → has_room s id bytes ≡ option_map_or has_slot (ring_at Tx s id) false
+pub room_short : (s : OwnState) (id : ℕ) (bytes : List ℕ) → IsRingAt Tx s id → length bytes ≤ 2048 → has_room s id (length bytes) ≡ option_map_or (λ (q : OwnRing). head_has_slot q.ring) (ring_at Tx s id) false
 room_short s id bytes rings few = ap (λ (n : ℕ). option_map_or (has_slots n) (ring_at Tx s id) false) (slots-one (length bytes) few) ∙ by (ring_at Tx s id) refl
   where
-    by : (o : Option OwnRing) → ring_at Tx s id ≡ o → option_map_or (has_slots 1) o false ≡ option_map_or has_slot o false
+    by : (o : Option OwnRing) → ring_at Tx s id ≡ o → option_map_or (has_slots 1) o false ≡ option_map_or (λ (q : OwnRing). head_has_slot q.ring) o false
     by None at = refl
     by (Some r) at = has_slots-one r (rings r at)

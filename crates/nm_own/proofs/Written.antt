@@ -10,7 +10,7 @@ use Rattle.nm_types.specs.OwnPorts.{OwnRing, OwnPort, OwnState, bytes_at, with_r
 use Rattle.nm_types.specs.OwnEdits.{has_room, with_written, with_frame, with_part, with_part_on, with_parts}
 use Rattle.nm_types.specs.Parts.{parts_of}
 use Rattle.nm_types.proofs.PutParts.{with_frame-one}
-use Rattle.nm_own.specs.Acts.{has_slot, IsRingAt, head_slot_in, front_slot_in}
+use Rattle.nm_own.specs.Acts.{IsRingAt, head_slot_in, front_slot_in}
 use Rattle.nm_own.specs.Edits.{ring_framed}
 use Rattle.nm_types.specs.SyncChecks.{contains_index}
 use Rattle.nm_hold.specs.declared.standing.Home.{Home}
@@ -19,7 +19,7 @@ use Rattle.nm_hold.specs.Standings.{cell_fronted}
 use Rattle.nm_hold.specs.Holds.{HoldState, buffers_of, standing_at, cell_at, places_of, with_cell, is_named_at, IsHold, SamePlaces}
 use Rattle.nm_hold.proofs.Shown.{named_stands}
 use Rattle.nm_port.specs.declared.port.UserPort.{UserPort}
-use Rattle.nm_port.specs.RingSlots.{RingSlots, slot_at, slot_before_tail}
+use Rattle.nm_port.specs.RingSlots.{RingSlots, slot_at, slot_before_tail, head_has_slot}
 use Rattle.nm_port.specs.Own.{ring_seen, port_seen, own_seen, bytes_in_cell, AreSided, AreRings, AreFlagged, AreFilled, AreWhole}
 use Rattle.nm_own.proofs.Filled.{is_named_seen}
 use Rattle.nm_port.proofs.Checked.{bytes_are_seen}
@@ -98,29 +98,29 @@ pub head_has : (s : OwnState) (id : ℕ) (bytes : List ℕ) (slot : SlotState) �
     → with_frame id bytes s ≡ with_ring Tx id (ring_framed Tx (length bytes)) (with_written slot.buf_idx bytes s)
 head_has s id bytes slot rings few e = with_frame-one id bytes s few ∙ by_ring (ring_at Tx s id) refl e
   where
-    by_slot : (r : OwnRing) (b : Bool) → has_slot r ≡ b → ring_at Tx s id ≡ Some r → head_slot_in Tx (Some r) ≡ Some slot
-        → (if has_room s id bytes then with_part id false bytes s else s) ≡ with_ring Tx id (ring_framed Tx (length bytes)) (with_written slot.buf_idx bytes s)
+    by_slot : (r : OwnRing) (b : Bool) → head_has_slot r.ring ≡ b → ring_at Tx s id ≡ Some r → head_slot_in Tx (Some r) ≡ Some slot
+        → (if has_room s id (length bytes) then with_part id false bytes s else s) ≡ with_ring Tx id (ring_framed Tx (length bytes)) (with_written slot.buf_idx bytes s)
     by_slot r false has at e = absurd (let no = rw has at e in cc)
     by_slot r true has at e =
         let is : slot_in Tx r r.ring.head ≡ slot = (let one = rw has at e in cc) in
-        let room : has_room s id bytes ≡ true = room_short s id bytes rings few ∙ (ap (λ (o : Option OwnRing). option_map_or has_slot o false) at ∙ has) in
+        let room : has_room s id (length bytes) ≡ true = room_short s id bytes rings few ∙ (ap (λ (o : Option OwnRing). option_map_or (λ (q : OwnRing). head_has_slot q.ring) o false) at ∙ has) in
         rw room (ap (with_part_on id false bytes s) at ∙ rw is refl)
 
     by_ring : (o : Option OwnRing) → ring_at Tx s id ≡ o → head_slot_in Tx o ≡ Some slot
-        → (if has_room s id bytes then with_part id false bytes s else s) ≡ with_ring Tx id (ring_framed Tx (length bytes)) (with_written slot.buf_idx bytes s)
+        → (if has_room s id (length bytes) then with_part id false bytes s else s) ≡ with_ring Tx id (ring_framed Tx (length bytes)) (with_written slot.buf_idx bytes s)
     by_ring None at e = absurd cc
-    by_ring (Some r) at e = by_slot r (has_slot r) refl at e
+    by_ring (Some r) at e = by_slot r (head_has_slot r.ring) refl at e
 
 pub head_lacks : (s : OwnState) (id : ℕ) (bytes : List ℕ) → IsRingAt Tx s id → length bytes ≤ 2048 → head_slot_in Tx (ring_at Tx s id) ≡ None → with_frame id bytes s ≡ s
 head_lacks s id bytes rings few e = rw (room_short s id bytes rings few) (by_ring (ring_at Tx s id) e)
   where
-    by_slot : (r : OwnRing) (b : Bool) → has_slot r ≡ b → head_slot_in Tx (Some r) ≡ None → (if has_slot r then with_parts id (parts_of bytes) s else s) ≡ s
+    by_slot : (r : OwnRing) (b : Bool) → head_has_slot r.ring ≡ b → head_slot_in Tx (Some r) ≡ None → (if head_has_slot r.ring then with_parts id (parts_of bytes) s else s) ≡ s
     by_slot r false has e = rw has refl
     by_slot r true has e = absurd (let one = rw has at e in cc)
 
-    by_ring : (o : Option OwnRing) → head_slot_in Tx o ≡ None → (if option_map_or has_slot o false then with_parts id (parts_of bytes) s else s) ≡ s
+    by_ring : (o : Option OwnRing) → head_slot_in Tx o ≡ None → (if option_map_or (λ (q : OwnRing). head_has_slot q.ring) o false then with_parts id (parts_of bytes) s else s) ≡ s
     by_ring None e = refl
-    by_ring (Some r) e = by_slot r (has_slot r) refl e
+    by_ring (Some r) e = by_slot r (head_has_slot r.ring) refl e
 
 pub nothing_there : {X : Type 0} (o : Option X) → ((x : X) → o ≡ Some x → ⊥) → o ≡ None
 nothing_there None never = refl

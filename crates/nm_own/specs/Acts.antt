@@ -1,23 +1,16 @@
 -- What a user does on the rings of its ports between two calls, in the parts in which it is done.
-use Rattle.std.specs.Prelude.{ℕ, ◌≡◌, Bool, false, not, ◌&&◌, ◌||◌, ◌==◌, nat_le, is_none, if◌then◌else◌, Option, Some, None, option_map, option_and_then}
-use Rattle.std.specs.Option.{option_map_or}
+use Rattle.std.specs.Prelude.{ℕ, ◌≡◌, Bool, not, ◌&&◌, ◌||◌, ◌==◌, nat_le, if◌then◌else◌, Option, Some, None, option_map, option_and_then}
 use Rattle.nm_types.specs.declared.id.Side.{Side}
 use Rattle.nm_types.specs.declared.id.Side.TheVariants.{Tx, Rx}
-use Rattle.nm_types.specs.Parts.{slots_of_length}
 use Rattle.nm_types.specs.Positions.{IsRing}
 use Rattle.nm_types.specs.Slots.{SlotState}
-use Rattle.nm_types.specs.SyncChecks.{ring_refusal}
-use Rattle.nm_types.specs.OwnPorts.{OwnRing, OwnState, is_whole, port_with_id, ring_at, slot_in}
-use Rattle.nm_types.specs.OwnEdits.{SlotPlace, has_slots, frame_slots, can_forward}
-use Rattle.nm_port.specs.RingSlots.{RingSlots, frame_ahead, slots_ahead}
+use Rattle.nm_types.specs.OwnPorts.{OwnRing, OwnState, ring_at, slot_in}
+use Rattle.nm_types.specs.OwnEdits.{SlotPlace, frame_slots, can_forward}
+use Rattle.nm_port.specs.RingSlots.{RingSlots, frame_ahead, head_has_slot, slots_ahead}
 use Rattle.nm_own.specs.declared.acts.SlotPlace.{SlotPlace as PlaceOfSlot}
 
 abbrev pub place_seen : PlaceOfSlot → SlotPlace
 place_seen place = record { port = place.port.0; side = place.side; at = place.at }
-
--- a ring whose positions fit, and whose head is still before its tail
-abbrev pub has_slot : OwnRing → Bool
-has_slot r = is_none (ring_refusal r.ring r.ring.head r.ring.cur) && not (r.ring.head == r.ring.tail)
 
 -- what the ring on a side of a port has, if there is one, are positions of a ring
 abbrev pub IsRingAt : Side → OwnState → ℕ → Type 0
@@ -25,7 +18,7 @@ IsRingAt side s id = (r : OwnRing) → ring_at side s id ≡ Some r → IsRing r
 
 -- the slot at the head of a ring that has one there
 abbrev pub head_slot_of : Side → OwnRing → Option SlotState
-head_slot_of side r = if has_slot r then Some (slot_in side r r.ring.head) else None
+head_slot_of side r = if head_has_slot r.ring then Some (slot_in side r r.ring.head) else None
 
 abbrev pub head_slot_in : Side → Option OwnRing → Option SlotState
 head_slot_in side ring = option_and_then (head_slot_of side) ring
@@ -36,14 +29,6 @@ front_slot_of side r = slot_in side r r.ring.head
 
 abbrev pub front_slot_in : Side → Option OwnRing → Option SlotState
 front_slot_in side ring = option_map (front_slot_of side) ring
-
--- room for a frame of this length
-abbrev pub has_room_for : OwnState → ℕ → ℕ → Bool
-has_room_for s id len = option_map_or (has_slots (slots_of_length len)) (ring_at Tx s id) false
-
--- whether each slot of the port of an id is a frame, as at a pipe's end
-abbrev pub is_whole_at : OwnState → ℕ → Bool
-is_whole_at s id = option_map_or is_whole (port_with_id s id) false
 
 -- how many slots the frame at a receive ring's head has, if it may go to the other ring, and else 0
 abbrev pub slots_to_go : Bool → Option OwnRing → Option OwnRing → ℕ

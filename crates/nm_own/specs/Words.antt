@@ -11,15 +11,15 @@ pub use Rattle.nm_port.specs.Sides.{TellsRefusal}
 pub use Rattle.nm_region.specs.Buffers.{Buffer, indices_of}
 pub use Rattle.nm_types.specs.Buffers.{IsPoolSize}
 pub use Rattle.nm_types.specs.Chain.{chain_head, link_bytes}
-pub use Rattle.nm_types.specs.OwnEdits.{sent_slot, slot_naming, slot_of_place, user_slot_at}
+pub use Rattle.nm_types.specs.OwnEdits.{has_room, sent_slot, slot_naming, slot_of_place, user_slot_at}
 pub use Rattle.nm_types.specs.OwnEdits.{with_all_back, with_cur, with_extra_link, with_forwarded}
 pub use Rattle.nm_types.specs.OwnEdits.{with_frame, with_head, with_head_of_chain, with_heads_forwarded}
 pub use Rattle.nm_types.specs.OwnEdits.{with_part, with_parts, with_positions, with_slots_forwarded}
 pub use Rattle.nm_types.specs.OwnEdits.{with_slot_field, with_slots_swapped, with_user_slot}
 pub use Rattle.nm_types.specs.OwnEdits.{with_written}
 pub use Rattle.nm_types.specs.Parts.{parts_of}
-pub use Rattle.nm_types.specs.OwnPorts.{OwnPort, bytes_at, empty_own, named_of, port_with_id}
-pub use Rattle.nm_types.specs.OwnPorts.{port_with_name, pushed_on, refusal_at, ring_at}
+pub use Rattle.nm_types.specs.OwnPorts.{OwnPort, bytes_at, empty_own, is_whole_at, named_of}
+pub use Rattle.nm_types.specs.OwnPorts.{port_with_id, port_with_name, pushed_on, refusal_at, ring_at}
 pub use Rattle.nm_types.specs.OwnSyncs.{back_on, chain_in, own_after_finish, own_after_open}
 pub use Rattle.nm_types.specs.OwnSyncs.{own_after_put, own_after_receive, own_after_reset}
 pub use Rattle.nm_types.specs.OwnSyncs.{own_after_send}

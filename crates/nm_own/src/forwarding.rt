@@ -1,8 +1,8 @@
 //! Frames that are forwarded without a copy.
 ghost use Rattle.std.specs.Prelude.{◌≡◌, nat_lt};
 ghost use Rattle.nm_own.specs.Words.{Rx, Tx, ring_at, sent_slot, with_forwarded};
-ghost use Rattle.nm_own.specs.Words.{with_heads_forwarded, with_slots_forwarded};
-ghost use Rattle.nm_own.specs.Acts.{frame_to_go, is_whole_at, slots_to_go_at};
+ghost use Rattle.nm_own.specs.Words.{is_whole_at, with_heads_forwarded, with_slots_forwarded};
+ghost use Rattle.nm_own.specs.Acts.{frame_to_go, slots_to_go_at};
 
 use crate::acts::naming;
 use crate::edit::RingEdit;
@@ -53,7 +53,7 @@ impl OwnSide {
     pub fn forward(&mut self, from: PortId, to: PortId, count: u32)
         ensures { self.new
             ≡ record self.old {
-              own = with_forwarded (is_whole_at self.old.own to.0) count from.0 to.0 self.old.own;
+              own = with_forwarded count from.0 to.0 self.old.own;
             } }
     {
         let whole = self.is_whole(to);

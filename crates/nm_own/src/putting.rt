@@ -1,8 +1,7 @@
 //! Frames that are put at the head of a transmit ring.
 ghost use Rattle.std.specs.Prelude.{◌≡◌, ◌≤◌, ◌<◌, drop, length, take};
-ghost use Rattle.nm_types.specs.Limits.{most_frame_bytes};
-ghost use Rattle.nm_own.specs.Words.{parts_of, with_frame, with_part, with_parts};
-ghost use Rattle.nm_own.specs.Acts.{has_room_for};
+ghost use Rattle.nm_types.specs.Limits.{buffer_bytes, most_frame_bytes};
+ghost use Rattle.nm_own.specs.Words.{has_room, parts_of, with_frame, with_part, with_parts};
 ghost use Rattle.nm_own.specs.Edits.{part_edit};
 
 use crate::edit::RingEdit;
@@ -12,9 +11,9 @@ use nm_types::{BUFFER_BYTES, PortId, Side};
 
 /// The first bytes of a long frame, as many as a buffer has, and those behind them.
 fn cut(bytes: &[u8]) -> (&[u8], &[u8])
-    requires { 2048 < length bytes.now }
-    ensures first { result.0.now ≡ take 2048 bytes.now }
-    ensures rest { result.1.now ≡ drop 2048 bytes.now }
+    requires { buffer_bytes < length bytes.now }
+    ensures first { result.0.now ≡ take buffer_bytes bytes.now }
+    ensures rest { result.1.now ≡ drop buffer_bytes bytes.now }
 {
     bytes.split_at(BUFFER_BYTES)
 }
@@ -35,7 +34,7 @@ impl OwnSide {
     /// fit, and from its head to before its tail there are as many slots as the frame takes.
     pub fn has_room(&self, port: PortId, len: usize) -> bool
         requires { len ≤ most_frame_bytes }
-        ensures { result ≡ has_room_for self.now.own port.0 len }
+        ensures { result ≡ has_room self.now.own port.0 len }
     {
         match ring_at(&self.ports, port, Side::Tx) {
             Some(ring) => slots(len) <= ring.slots_ahead(),
@@ -60,7 +59,7 @@ impl OwnSide {
 
     /// Puts a frame that fits a buffer, as `put_frame` does.
     fn put_short(&mut self, port: PortId, bytes: &[u8])
-        requires { length bytes.now ≤ 2048 }
+        requires { length bytes.now ≤ buffer_bytes }
         ensures { self.new ≡ record self.old { own = with_frame port.0 bytes.now self.old.own } }
     {
         if let Some(slot) = self.head_slot(port, Side::Tx) {
@@ -86,7 +85,7 @@ impl OwnSide {
     /// Puts a part of a frame into the slot at the head of a port's transmit ring, if it has that
     /// ring. `more` says that others follow it.
     fn put_part(&mut self, port: PortId, part: &[u8], more: bool)
-        requires { length part.now ≤ 2048 }
+        requires { length part.now ≤ buffer_bytes }
         ensures { self.new
             ≡ record self.old { own = with_part port.0 more part.now self.old.own } }
     {

@@ -1,12 +1,10 @@
 -- Where the frame ends that begins in the first of some slots.
-use Rattle.std.proofs.Common.{ℕ, zero, suc, ◌≡◌, ◌+◌, ◌<◌, ◌≤◌, Bool, true, false, not, cond, nat_lt, List, [], ◌∷◌, length, drop, Some, None, refl, sym, ◌∙◌, ap, arith}
-use Rattle.std.specs.Prelude.{position}
+use Rattle.std.proofs.Common.{ℕ, suc, ◌≡◌, ◌+◌, ◌<◌, ◌≤◌, Bool, true, false, cond, nat_lt, List, [], ◌∷◌, length, drop, Some, None, refl, ◌∙◌, ap, arith}
 use Rattle.std.specs.Option.{option_map_or}
 use Rattle.std.specs.List.{position_or_len}
 use Rattle.std.proofs.lemmas.Bool.Decides.{nat_tests}
 use Rattle.nm_types.specs.Slots.{SlotState, goes_on}
-use Rattle.nm_types.specs.OwnEdits.{ends_here}
-use Rattle.nm_port.specs.RingSlots.{slots_to_end}
+use Rattle.nm_types.specs.OwnEdits.{ends_here, slots_to_end}
 
 -- how many slots stand before the first in which a frame ends
 abbrev pub before_end : List SlotState → ℕ

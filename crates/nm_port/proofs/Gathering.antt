@@ -1,14 +1,14 @@
 -- Frames that are gathered from slots one by one are those that end in the slots.
-use Rattle.std.proofs.Common.{ℕ, zero, suc, Bool, true, false, ◌≡◌, ◌<◌, ◌+◌, List, [], ◌∷◌, ◌++◌, length, map, take, drop, get_or, Option, Some, None, inl, inr, refl, sym, ◌∙◌, ap, arith}
+use Rattle.std.proofs.Common.{ℕ, Bool, true, false, ◌≡◌, ◌<◌, ◌+◌, List, [], ◌∷◌, ◌++◌, length, map, take, Option, Some, None, inl, inr, refl, sym, ◌∙◌, ap, arith}
 use Rattle.std.specs.Prelude.{is_some}
 use Rattle.std.proofs.lemmas.Bool.{cases_Bool}
 use Rattle.std.proofs.lemmas.List.{append-nil, append_assoc, length-append}
 use Rattle.nm_types.specs.Frames.{Frame, extended, extended_behind}
 use Rattle.nm_types.specs.declared.id.Side.TheVariants.{Tx}
-use Rattle.nm_types.specs.Slots.{SlotState, Pushed, slot_of_pushed, goes_on, with_slot_bytes, joined_frames, frame_at}
-use Rattle.nm_types.specs.SyncChecks.{is_closing, begun_after, EachPasses}
+use Rattle.nm_types.specs.Slots.{SlotState, Pushed, slot_of_pushed, goes_on, with_slot_bytes, joined_frames}
+use Rattle.nm_types.specs.SyncChecks.{begun_after, EachPasses}
 use Rattle.nm_types.proofs.PutParts.{extended-last}
-use Rattle.nm_types.proofs.JoinedFrames.{joined-ended, joined-goes_on}
+use Rattle.nm_types.proofs.JoinedFrames.{closing-last}
 use Rattle.nm_port.specs.Gathered.{with_gathered, gathered, goes_on_behind}
 
 -- the frames so far, with the one that began
@@ -61,20 +61,10 @@ pushed-some fs f = let long = length-append fs (f ∷ []) in omega (arith, long)
 
 pub ruleset gathering = (extended-some, pushed-some)
 
--- the slots from a place on
-pub slots-at : (slots : List SlotState) (i : ℕ) (d : SlotState) → i < length slots → drop i slots ≡ get_or slots i d ∷ drop (i + 1) slots
-slots-at [] i d within = absurd (omega (arith, within))
-slots-at (s ∷ ss) zero d within = refl
-slots-at (s ∷ ss) (suc i) d within = let next : suc i + 1 ≡ suc (i + 1) = omega arith in rw next (slots-at ss i d (omega (arith, within)))
-
 -- the last slot of a push that no check refuses ends a frame
-closing-last : (whole : Bool) (begun : ℕ) → is_closing whole begun [] ≡ true
-closing-last true begun = refl
-closing-last false begun = refl
-
 ends-behind : (whole : Bool) (pool : ℕ) (named earlier : List ℕ) (begun : ℕ) (on : Bool) (p : Pushed) (ps : List Pushed) → EachPasses Tx whole pool named earlier begun (p ∷ ps)
     → goes_on_behind on (map slot_of_pushed (p ∷ ps)) ≡ false
-ends-behind whole pool named earlier begun on p [] passes = passes.0.whole refl (closing-last whole begun)
+ends-behind whole pool named earlier begun on p [] passes = passes.0.ends refl (closing-last whole begun)
 ends-behind whole pool named earlier begun on p (q ∷ qs) passes =
     ends-behind whole pool named (earlier ++ p.slot.buf_idx ∷ []) (begun_after begun p.slot) (goes_on p.slot) q qs passes.1
 

@@ -1,8 +1,7 @@
 -- The checks of pushed slots, one behind the other, and the marks of the buffers that they name.
-use Rattle.std.proofs.Common.{ℕ, zero, suc, ◌≡◌, ◌≢◌, ◌<◌, ◌≤◌, ◌+◌, ◌-◌, Bool, true, false, nat_eq, List, [], ◌∷◌, ◌++◌, length, map, take, drop, get_or, set, replicate, if◌then◌else◌, Option, Some, None, inl, inr, refl, sym, ◌∙◌, ap, arith}
+use Rattle.std.proofs.Common.{ℕ, zero, suc, ◌≡◌, ◌≢◌, ◌<◌, ◌≤◌, ◌+◌, ◌-◌, Bool, true, false, nat_eq, List, [], ◌∷◌, ◌++◌, length, map, take, drop, get_or, set, replicate, if◌then◌else◌, Some, None, inl, inr, refl, sym, ◌∙◌, ap, arith}
 use Rattle.std.specs.Prelude.{◌||◌}
 use Rattle.std.proofs.lemmas.Bool.{cases_Bool}
-use Rattle.std.proofs.lemmas.Bool.Decides.{nat_tests}
 use Rattle.std.proofs.Math.Bool.{or-true, or-false}
 use Rattle.std.specs.List.{range_with_len}
 use Rattle.std.proofs.lemmas.List.{length-replicate, length-set, length-map, length-drop, drop_all, get_or-set_same, get_or-set_other, get_or-replicate, same_lists, get_or_read}
@@ -10,22 +9,17 @@ use Rattle.std.proofs.lemmas.List.Folds.{list_any-append}
 use Rattle.nm_hold.proofs.Spots.{nat_eq-is}
 use Rattle.nm_types.specs.declared.id.Side.{Side}
 use Rattle.nm_types.specs.declared.refusal.SlotFault.{SlotFault}
-use Rattle.nm_types.specs.declared.fault.SyncFault.{SyncFault}
-use Rattle.nm_types.specs.Slots.{SlotState, Pushed, pushed_names, goes_on}
+use Rattle.nm_types.specs.Slots.{SlotState, Pushed, goes_on}
 use Rattle.nm_types.specs.SyncFaults.{slot_sync_fault}
 use Rattle.nm_types.specs.Positions.{step_on, slots_from}
-use Rattle.nm_types.specs.SyncChecks.{slots_refusal, slot_refusal, seen_of, begun_after, contains_index}
+use Rattle.nm_types.specs.SyncChecks.{slots_refusal, slot_refusal, is_closing, seen_of, begun_after, contains_index}
 use Rattle.std.proofs.lemmas.List.FromFn.{length-range_with_len}
+use Rattle.nm_types.proofs.Lists.{drop-get_or}
 use Rattle.nm_types.proofs.Tests.{same_true, false_true}
 use Rattle.nm_port.proofs.Seeing.{get-slots}
 use Rattle.nm_port.specs.Sides.{AreMarked, AreMarkedOf, AreCleared}
 
 module _ {X : Type 0} where
-  rest-at : (xs : List X) (i : ℕ) (d : X) → i < length xs → drop i xs ≡ get_or xs i d ∷ drop (i + 1) xs
-  rest-at [] i d within = absurd (omega (arith, within))
-  rest-at (x ∷ xs) zero d within = refl
-  rest-at (x ∷ xs) (suc i) d within = let next : suc i + 1 ≡ suc (i + 1) = omega arith in rw next (rest-at xs i d (omega (arith, within)))
-
   pub length-slots : (f : ℕ → X) (size first n : ℕ) → length (map f (slots_from size first n)) ≡ n
   length-slots f size first n = length-map (slots_from size first n) f ∙ (length-map (range_with_len 0 n) (step_on size first) ∙ length-range_with_len 0 n)
 
@@ -35,7 +29,7 @@ module _ {X : Type 0} where
       let all = map f (slots_from size first n) in
       let x = f (step_on size first k) in
       let long = length-slots f size first n in
-      rest-at all k x (omega (arith, below, long)) ∙ ap (λ (y : X). y ∷ drop (k + 1) all) (get-slots f size first 0 n k x below ∙ ap (λ (i : ℕ). f (step_on size first i)) (omega arith))
+      drop-get_or all k x (omega (arith, below, long)) ∙ ap (λ (y : X). y ∷ drop (k + 1) all) (get-slots f size first 0 n k x below ∙ ap (λ (i : ℕ). f (step_on size first i)) (omega arith))
 
   pub rest-count : (f : ℕ → X) (size first n k : ℕ) → length (drop k (map f (slots_from size first n))) ≡ n - k
   rest-count f size first n k = (let long = length-slots f size first n in let less = length-drop k (map f (slots_from size first n)) in omega (arith, long, less))
@@ -45,12 +39,12 @@ module _ {X : Type 0} where
 
 -- a slot that passes leaves the refusals of the others, and one that does not is the first
 pub judged_next : (side : Side) (whole : Bool) (pool : ℕ) (named earlier : List ℕ) (begun : ℕ) (x : Pushed) (others : List Pushed)
-    → slot_refusal side (seen_of whole pool named earlier begun others x) x.at x.slot ≡ None
+    → slot_refusal side (seen_of (is_closing whole begun (length others)) pool named earlier x) x.at x.slot ≡ None
     → slots_refusal side whole pool named earlier begun (x ∷ others) ≡ slots_refusal side whole pool named (earlier ++ x.slot.buf_idx ∷ []) (begun_after begun x.slot) others
 judged_next side whole pool named earlier begun x others here = rw here refl
 
 pub judged_bad : (side : Side) (whole : Bool) (pool : ℕ) (named earlier : List ℕ) (begun : ℕ) (x : Pushed) (others : List Pushed) (fault : SlotFault)
-    → slot_refusal side (seen_of whole pool named earlier begun others x) x.at x.slot ≡ Some fault
+    → slot_refusal side (seen_of (is_closing whole begun (length others)) pool named earlier x) x.at x.slot ≡ Some fault
     → slots_refusal side whole pool named earlier begun (x ∷ others) ≡ Some (slot_sync_fault fault)
 judged_bad side whole pool named earlier begun x others fault here = rw here refl
 

@@ -1,5 +1,5 @@
 -- A push each of whose slots keeps the buffer in its place: no slot of it is refused.
-use Rattle.std.proofs.Common.{ℕ, zero, suc, ◌≡◌, ◌<◌, ◌≤◌, ◌+◌, Bool, true, false, nat_eq, List, [], ◌∷◌, ◌++◌, map, drop, Option, Some, None, inl, inr, refl, sym, ◌∙◌, ap, subst, arith}
+use Rattle.std.proofs.Common.{ℕ, zero, suc, ◌≡◌, ◌<◌, ◌≤◌, ◌+◌, Bool, true, false, nat_eq, List, [], ◌∷◌, ◌++◌, length, map, drop, Option, Some, None, inl, inr, refl, sym, ◌∙◌, ap, subst, arith}
 use Rattle.std.specs.Prelude.{◌||◌, unwrap_or}
 use Rattle.std.proofs.lemmas.Bool.{cases_Bool}
 use Rattle.std.proofs.lemmas.List.{map-append}
@@ -8,7 +8,7 @@ use Rattle.nm_types.specs.declared.id.Side.{Side}
 use Rattle.nm_types.specs.declared.id.Side.TheVariants.{Tx, Rx}
 use Rattle.nm_types.specs.Positions.{IsRing, FitsRing, slots_from}
 use Rattle.nm_types.specs.Slots.{Pushed, pushed_names}
-use Rattle.nm_types.specs.SyncChecks.{is_tx, slots_refusal, seen_of, begun_after, contains_index, PassesSlot}
+use Rattle.nm_types.specs.SyncChecks.{is_tx, slots_refusal, is_closing, seen_of, begun_after, contains_index, PassesSlot}
 use Rattle.nm_types.proofs.SlotChecks.{slot_refusal-passes}
 use Rattle.nm_types.proofs.Tests.{false_true}
 use Rattle.nm_hold.specs.Holds.{HoldState, buffers_of, index_at, is_named_at, slot_on, IsHold, AreNumbers}
@@ -95,7 +95,7 @@ module _ (h : HoldState) (id : PortId) (r : RingSlots) (numbers : List ℕ) (is 
           let next : drop n all ≡ x ∷ others = rest-next (pushed_seen_at h id r) r.ring.size r.ring.accepted_head (pushed_count_of r) n below in
           let named_one = (stands n below).1 in
           let index = named_within h (own_name n) is_hold named_one in
-          let here : PassesSlot r.side (seen_of whole (buffers_of h) named (pushed_names (seen n)) begun others x) x.slot = record {
+          let here : PassesSlot r.side (seen_of (is_closing whole begun (length others)) (buffers_of h) named (pushed_names (seen n)) x) x.slot = record {
             direct = λ tx. (plain tx n below).direct;
             least = index.least;
             most = index.most;
@@ -103,9 +103,9 @@ module _ (h : HoldState) (id : PortId) (r : RingSlots) (numbers : List ℕ) (is 
             once = names_apart n below;
             announced = λ differs. absurd (differs (sym (number_there n below)));
             fits_buffer = λ tx. (plain tx n below).fits;
-            whole = λ tx closing. (plain tx n below).whole;
+            ends = λ tx closing. (plain tx n below).ends;
           } in
-          let passes = slot_refusal-passes r.side (seen_of whole (buffers_of h) named (pushed_names (seen n)) begun others x) x.at x.slot here in
+          let passes = slot_refusal-passes r.side (seen_of (is_closing whole begun (length others)) (buffers_of h) named (pushed_names (seen n)) x) x.at x.slot here in
           let names : pushed_names (seen (n + 1)) ≡ pushed_names (seen n) ++ x.slot.buf_idx ∷ [] =
           ap pushed_names (seen_more (pushed_seen_at h id r) r.ring.size r.ring.accepted_head n) ∙ map-append (λ (p : Pushed). p.slot.buf_idx) (seen n) (x ∷ []) in
           let rest = kept_from left (n + 1) (begun_after begun x.slot) (omega (arith, sum)) in

@@ -1,7 +1,6 @@
 -- A ring with its slots: those of a transmit ring by position, those of a receive ring from the accepted
 -- head on, as many as are the user's.
-use Rattle.std.specs.Prelude.{ℕ, suc, Bool, true, ◌≡◌, ◌<◌, ◌+◌, ◌==◌, ◌&&◌, not, is_none, List, length, map, position, Option, Some, None, if◌then◌else◌, slice_index_or, slice_set}
-use Rattle.std.specs.Option.{option_map_or}
+use Rattle.std.specs.Prelude.{ℕ, Bool, true, ◌≡◌, ◌<◌, ◌+◌, ◌==◌, ◌&&◌, not, is_none, List, length, map, Option, Some, None, if◌then◌else◌, slice_index_or, slice_set}
 use Rattle.bitflags.specs.Sets.{without}
 use Rattle.nm_types.specs.declared.id.Side.{Side}
 use Rattle.nm_types.specs.declared.id.Side.TheVariants.{Tx, Rx}
@@ -10,7 +9,7 @@ use Rattle.nm_types.specs.Slots.{SlotState}
 use Rattle.nm_types.specs.Reset.{reset_slot}
 use Rattle.nm_types.specs.SyncChecks.{ring_refusal}
 use Rattle.nm_types.specs.OwnPorts.{OwnRing, index_of, blank_slot}
-use Rattle.nm_types.specs.OwnEdits.{frame_marks, flags_of_part, ends_here}
+use Rattle.nm_types.specs.OwnEdits.{frame_marks, flags_of_part, slots_to_end}
 
 pub record RingSlots : Type 0 where
   pub side : Side
@@ -70,10 +69,6 @@ head_has_slot ring = is_none (ring_refusal ring ring.head ring.cur) && not (ring
 -- how many slots there are from the head to before the tail, if the positions fit
 abbrev pub slots_ahead : RingState → ℕ
 slots_ahead ring = if is_none (ring_refusal ring ring.head ring.cur) then dist ring.size ring.head ring.last_tail else 0
-
--- how many slots of a row there are up to the first in which a frame ends; 0 where none does
-abbrev pub slots_to_end : List SlotState → ℕ
-slots_to_end slots = option_map_or suc (position ends_here slots) 0
 
 -- how many slots the frame at the head has, if the positions fit and it ends before the tail, and else 0
 abbrev pub frame_ahead : RingSlots → ℕ

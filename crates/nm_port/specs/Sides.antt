@@ -1,16 +1,15 @@
 -- How the rings, the hold and the list of ports of a session's own side are seen: each place has the
 -- number of the buffer in it, 0 if it holds none.
-use Rattle.std.specs.Prelude.{ℕ, Bool, true, false, ◌≡◌, ◌≤◌, ◌<◌, ◌==◌, ◌+◌, ◌||◌, List, length, map, take, if◌then◌else◌, unwrap_or, slice_index_or, slice_set, ⊤, Result, Ok, Err, Option, Some, None}
+use Rattle.std.specs.Prelude.{ℕ, Bool, true, false, ◌≡◌, ◌≤◌, ◌<◌, List, length, map, take, if◌then◌else◌, unwrap_or, slice_index_or, slice_set, ⊤, Result, Ok, Err, Option, Some, None}
 use Rattle.nm_types.specs.declared.id.PortId.{PortId}
 use Rattle.nm_types.specs.declared.id.Side.{Side}
 use Rattle.nm_types.specs.declared.id.Side.TheVariants.{Tx, Rx}
 use Rattle.nm_types.specs.declared.place.Place.{Place}
 use Rattle.nm_types.specs.declared.place.Place.TheVariants as place
-use Rattle.nm_types.specs.Limits.{buffer_bytes, most_frame_slots}
+use Rattle.nm_types.specs.Limits.{buffer_bytes}
 use Rattle.nm_types.specs.Positions.{is_user_slot, pushed_slots}
 use Rattle.nm_types.specs.Slots.{SlotState, Pushed, has_flag, indirect, more_fragments}
-use Rattle.nm_types.specs.declared.slot.Seen.{Seen}
-use Rattle.nm_types.specs.SyncChecks.{contains_index, slot_refusal, refusal_of}
+use Rattle.nm_types.specs.SyncChecks.{contains_index, seen_of, slot_refusal, refusal_of}
 use Rattle.nm_types.specs.declared.refusal.SlotFault.{SlotFault}
 use Rattle.nm_types.specs.declared.fault.SyncFault.{SyncFault}
 use Rattle.nm_types.specs.SyncFaults.{slot_sync_fault}
@@ -44,24 +43,10 @@ abbrev pub marks_after : Result ⊤ SlotFault → List Bool → ℕ → List Boo
 marks_after (Ok _) marks idx = slice_set marks idx true
 marks_after (Err fault) marks idx = marks
 
--- a frame must end in a slot behind which so many are pushed, and so many of the frame stand before it
-abbrev pub closes : Bool → ℕ → ℕ → Bool
-closes whole left begun = whole || (left == 0 || begun + 1 == most_frame_slots)
-
--- what a sync knows of a pushed slot, where a frame must end in it or need not
-abbrev pub seen_closing : Bool → ℕ → List ℕ → List ℕ → Pushed → Seen
-seen_closing closing pool named earlier pushed = record {
-  was = pushed.was;
-  top = pool + 1;
-  held = contains_index named pushed.slot.buf_idx;
-  doubled = contains_index earlier pushed.slot.buf_idx;
-  closing = closing;
-}
-
 -- a slot behind slots that name the earlier buffers is judged as a sync judges it
 abbrev pub JudgesSlot : Result ⊤ SlotFault → Side → Bool → ℕ → List ℕ → List ℕ → Pushed → Type 0
-JudgesSlot (Ok _) side closing pool named earlier pushed = slot_refusal side (seen_closing closing pool named earlier pushed) pushed.at pushed.slot ≡ None
-JudgesSlot (Err fault) side closing pool named earlier pushed = slot_refusal side (seen_closing closing pool named earlier pushed) pushed.at pushed.slot ≡ Some fault
+JudgesSlot (Ok _) side closing pool named earlier pushed = slot_refusal side (seen_of closing pool named earlier pushed) pushed.at pushed.slot ≡ None
+JudgesSlot (Err fault) side closing pool named earlier pushed = slot_refusal side (seen_of closing pool named earlier pushed) pushed.at pushed.slot ≡ Some fault
 
 -- slots that are judged in their order, and the first refusal of them
 abbrev pub JudgesAll : Result ⊤ SlotFault → Option SyncFault → Type 0
@@ -96,7 +81,7 @@ TellsCheck result h id r whole = (named : List ℕ) → AreNamed h named → Tel
 -- neither the marks nor the length of a transmit slot refuse it
 pub record IsPlain (slot : SlotState) : Type 0 where
   pub direct : has_flag indirect slot ≡ false
-  pub whole : has_flag more_fragments slot ≡ false
+  pub ends : has_flag more_fragments slot ≡ false
   pub fits : slot.len ≤ buffer_bytes
 
 -- each of the user's slots has a named buffer in its place

@@ -6,6 +6,7 @@ pub use Rattle.nm_hold.specs.Offsets.{ArePortsOnce, has_place}
 pub use Rattle.nm_region.specs.Buffers.{indices_of}
 pub use Rattle.nm_types.specs.Buffers.{IsBufferIndex, cleared_but}
 pub use Rattle.nm_types.specs.Chain.{chain_of}
+pub use Rattle.nm_types.specs.OwnEdits.{slots_to_end}
 pub use Rattle.nm_types.specs.OwnPorts.{blank_slot, index_of}
 pub use Rattle.nm_types.specs.OwnSyncs.{accepted, opened_slot, slots_after_push, with_push_cleared}
 pub use Rattle.nm_types.specs.Places.{is_same_place}
@@ -14,7 +15,7 @@ pub use Rattle.nm_types.specs.Positions.{opened_rx, opened_tx, slots_from, step_
 pub use Rattle.nm_types.specs.Reset.{reset_positions}
 pub use Rattle.nm_types.specs.Slots.{SlotState, frame_at, goes_on, has_flag, no_learn, part_flags, published_slot}
 pub use Rattle.nm_types.specs.Slots.{pushed_names, slot_after_push}
-pub use Rattle.nm_types.specs.SyncChecks.{begun_after, is_tx, refusal_of, slots_refusal}
+pub use Rattle.nm_types.specs.SyncChecks.{begun_after, is_closing, is_tx, refusal_of, slots_refusal}
 pub use Rattle.nm_types.specs.SyncFaults.{ring_sync_fault, slot_sync_fault}
 pub use Rattle.nm_types.specs.declared.id.PortId.{PortId}
 pub use Rattle.nm_types.specs.declared.id.Side.TheVariants.{Rx, Tx}

@@ -3,11 +3,11 @@ ghost use Rattle.std.specs.Prelude.{OnErr, MatchResult};
 ghost use Rattle.std.specs.Prelude.{None, Some, true, false, length, replicate, slice_index_or};
 ghost use Rattle.std.specs.Prelude.{slice_set, ◌+◌};
 ghost use Rattle.nm_port.specs.Words.{FitsRing, IsHold, begun_after, blank_slot, buffers_of};
-ghost use Rattle.nm_port.specs.Words.{is_named_at, is_tx};
+ghost use Rattle.nm_port.specs.Words.{is_closing, is_named_at, is_tx};
 ghost use Rattle.nm_port.specs.Words.{is_user_slot, pushed_names, slots_refusal};
 ghost use Rattle.nm_port.specs.Sides.{place_on, number_at, pushed_seen_at, pushed_seen};
 ghost use Rattle.nm_port.specs.Sides.{names_pushed, AreNamed, AreMarked, AreMarkedOf, AreCleared};
-ghost use Rattle.nm_port.specs.Sides.{JudgesSlot, JudgesAll, TellsCheck, closes, marks_after};
+ghost use Rattle.nm_port.specs.Sides.{JudgesSlot, JudgesAll, TellsCheck, marks_after};
 ghost use Rattle.nm_port.specs.Sides.{HaveNamed, IsPlain};
 ghost use Rattle.nm_port.specs.Exchanges.{pushed_count_of, user_position};
 ghost use Rattle.nm_port.specs.RingSlots.{IsRingSlots, slot_at};
@@ -65,12 +65,12 @@ fn seen_at(hold: &Hold, place: Place, idx: u32, closing: bool, marks: &Marks) ->
 /// the same frame.
 fn is_closing(whole: bool, left: u32, begun: u32) -> bool
     requires { begun < 2 ^ 31 }
-    ensures { result ≡ closes whole left begun }
+    ensures { result ≡ is_closing whole begun left }
 {
     whole || left == 0 || begun + 1 == MAX_FRAME_SLOTS
 }
 
-/// How many slots of the frame that goes on there are behind a slot.
+/// How many slots of the frame that goes on there are up to and with a slot.
 fn begun_after(begun: u32, slot: &Slot) -> u32
     requires { begun < 2 ^ 31 }
     ensures { result ≡ begun_after begun slot.now }

@@ -88,7 +88,7 @@ fn gather_slots(
 /// The frames of the pushed slots, all of which end there.
 pub fn gather(alloc: Global, hold: &Hold, ring: &SlotRing) -> Result<Batch, NoMemory>
     requires fits { FitsRing ring.now.ring ring.now.ring.head ring.now.ring.cur }
-    requires whole { goes_on_behind false (slots_pushed ring.now) ≡ false }
+    requires ends { goes_on_behind false (slots_pushed ring.now) ≡ false }
     ensures { IfOk result (λ batch. batch ≡ frames_seen hold.now ring.now) }
 {
     let (first, count) = ring.pushed();

@@ -5,11 +5,11 @@ ghost use Rattle.nm_port.specs.Words.{FitsRing, IsRing, IsRingSize, Rx, Tx, acce
 ghost use Rattle.nm_port.specs.Words.{deque_capacity, dist, index_of, indices_of, is_user_slot};
 ghost use Rattle.nm_port.specs.Words.{opened_rx, opened_slot, opened_tx, option_copied};
 ghost use Rattle.nm_port.specs.Words.{option_copied_mut, published_slot, reset_positions, sem};
-ghost use Rattle.nm_port.specs.Words.{slots_after_push, slots_from, step_on};
+ghost use Rattle.nm_port.specs.Words.{slots_after_push, slots_from, slots_to_end, step_on};
 ghost use Rattle.nm_port.specs.RingSlots.{RingSlots, IsRingSlots, slot_of_user};
 ghost use Rattle.nm_port.specs.RingSlots.{with_slot_of_user, with_slot_reset_at, at_positions};
 ghost use Rattle.nm_port.specs.RingSlots.{slot_at, with_slot_at, both_stepped, head_stepped};
-ghost use Rattle.nm_port.specs.RingSlots.{slot_framed, slot_going_on, slots_to_end, frame_ahead};
+ghost use Rattle.nm_port.specs.RingSlots.{slot_framed, slot_going_on, frame_ahead};
 ghost use Rattle.nm_port.specs.RingSlots.{head_has_slot, slots_ahead, count_behind_tail};
 ghost use Rattle.nm_port.specs.RingSlots.{AreSideBySide};
 ghost use Rattle.nm_port.specs.Exchanges.{CanPushOut, ring_pushed_out, user_position};

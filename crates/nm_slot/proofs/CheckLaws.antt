@@ -1,20 +1,15 @@
 -- The laws of the checks, from those of one slot.
-use Rattle.std.proofs.Common.{ℕ, Bool, true, false, ◌≡◌, List, [], ◌∷◌, ◌++◌, Option, Some, None, option_map, if◌then◌else◌, refl}
-use Rattle.nm_types.specs.declared.id.Side.{Side}
-use Rattle.nm_types.specs.declared.fault.SyncFault.{SyncFault}
+use Rattle.std.proofs.Common.{Bool, true, false, ◌≡◌, [], Option, Some, None, option_map, if◌then◌else◌, refl}
 use Rattle.nm_types.specs.declared.refusal.RingFault.{RingFault}
-use Rattle.nm_types.specs.declared.refusal.RingFault.TheVariants.{HeadOut, CurOut}
-use Rattle.nm_types.specs.declared.refusal.SlotFault.{SlotFault}
-use Rattle.nm_types.specs.declared.refusal.SlotFault.TheVariants.{Indirect, IndexOut, NotHeld, Doubled, Unannounced, LongLen, Fragment}
 use Rattle.nm_types.specs.Positions.{RingState, FitsRing}
-use Rattle.nm_types.specs.Slots.{Pushed}
-use Rattle.nm_types.specs.SyncFaults.{is_check_fault, ring_sync_fault, slot_sync_fault}
-use Rattle.nm_types.specs.SyncChecks.{is_beyond, ring_refusal, slot_refusal, slots_refusal, first_refusal, seen_of, begun_after, EachPasses}
+use Rattle.nm_types.specs.SyncFaults.{ring_sync_fault}
+use Rattle.nm_types.specs.SyncChecks.{is_beyond, ring_refusal, slots_refusal}
 use Rattle.nm_types.proofs.RingChecks.{is_beyond-not, Fits-from_beyond}
 use Rattle.nm_types.proofs.SlotChecks.{first_none, later_none, EachPasses-from_none, slots_refusal-passes, NamesOnce-from_passes}
-use Rattle.nm_types.proofs.JoinedFrames.{passed-sent, passed-each}
+use Rattle.nm_types.proofs.CheckFaults.{refusal-is_check}
+use Rattle.nm_types.proofs.JoinedFrames.{passed-sent, passed-bytes, passed-each}
 use Rattle.nm_types.proofs.Exchanges.{exchanged_here, exchanged_there, exchanged_stays, EachBufferOnce-exchanged, pushed_hold_names}
-use Rattle.nm_slot.specs.Laws.{PassedPositionsFit, PassedSlotsPass, FittingPasses, PassedNamesOnce, RefusalsAreChecks, PushedFramesAreSent, WholeSlotsAreFrames, ExchangeBringsNamed, ExchangeGivesBack, ExchangeLeavesOthers, ExchangeKeepsOnce, PushedHoldNames}
+use Rattle.nm_slot.specs.Laws.{PassedPositionsFit, PassedSlotsPass, FittingPasses, PassedNamesOnce, RefusalsAreChecks, PushedFramesAreSent, PushedBytesAreSent, WholeSlotsAreFrames, ExchangeBringsNamed, ExchangeGivesBack, ExchangeLeavesOthers, ExchangeKeepsOnce, PushedHoldNames}
 
 none_of_two : {A : Type 0} → (a b : Bool) (x y : A) → (if a then Some x else if b then Some y else None) ≡ None → (a ≡ false) × (b ≡ false)
 none_of_two true b x y e = cc
@@ -48,44 +43,19 @@ fitting_passes side whole pool named ring pushed fits passes =
 pub passed_names_once : PassedNamesOnce
 passed_names_once side whole pool named pushed passes = NamesOnce-from_passes side whole pool named [] 0 pushed passes
 
-some_check : (this that : SyncFault) → is_check_fault this ≡ true → Some this ≡ Some that → is_check_fault that ≡ true
-some_check this that h e = let same : this ≡ that = cc in rw same at h
-
-ring_is_check : (o : Option RingFault) (later : Option SyncFault) (fault : SyncFault) → ((f : SyncFault) → later ≡ Some f → is_check_fault f ≡ true)
-    → first_refusal (option_map ring_sync_fault o) later ≡ Some fault → is_check_fault fault ≡ true
-ring_is_check None later fault rest e = rest fault e
-ring_is_check (Some (HeadOut head from to)) later fault rest e = some_check (ring_sync_fault (HeadOut head from to)) fault refl e
-ring_is_check (Some (CurOut cur from to)) later fault rest e = some_check (ring_sync_fault (CurOut cur from to)) fault refl e
-
-slot_is_check : (o : Option SlotFault) (later : Option SyncFault) (fault : SyncFault) → ((f : SyncFault) → later ≡ Some f → is_check_fault f ≡ true)
-    → first_refusal (option_map slot_sync_fault o) later ≡ Some fault → is_check_fault fault ≡ true
-slot_is_check None later fault rest e = rest fault e
-slot_is_check (Some (Indirect at)) later fault rest e = some_check _ fault refl e
-slot_is_check (Some (IndexOut at idx)) later fault rest e = some_check _ fault refl e
-slot_is_check (Some (NotHeld at idx)) later fault rest e = some_check _ fault refl e
-slot_is_check (Some (Doubled at idx)) later fault rest e = some_check _ fault refl e
-slot_is_check (Some (Unannounced at idx was)) later fault rest e = some_check _ fault refl e
-slot_is_check (Some (LongLen at len)) later fault rest e = some_check _ fault refl e
-slot_is_check (Some (Fragment at)) later fault rest e = some_check _ fault refl e
-
-slots_are_checks : (side : Side) (whole : Bool) (pool : ℕ) (named earlier : List ℕ) (begun : ℕ) (pushed : List Pushed) (fault : SyncFault) → slots_refusal side whole pool named earlier begun pushed ≡ Some fault → is_check_fault fault ≡ true
-slots_are_checks side whole pool named earlier begun [] fault e = cc
-slots_are_checks side whole pool named earlier begun (p ∷ ps) fault e =
-    slot_is_check (slot_refusal side (seen_of whole pool named earlier begun ps p) p.at p.slot) (slots_refusal side whole pool named (earlier ++ p.slot.buf_idx ∷ []) (begun_after begun p.slot) ps) fault
-    (λ (f : SyncFault) (h : slots_refusal side whole pool named (earlier ++ p.slot.buf_idx ∷ []) (begun_after begun p.slot) ps ≡ Some f). slots_are_checks side whole pool named (earlier ++ p.slot.buf_idx ∷ []) (begun_after begun p.slot) ps f h) e
-
 pub refusals_are_checks : RefusalsAreChecks
-refusals_are_checks side whole pool named ring pushed fault e =
-    ring_is_check (ring_refusal ring ring.head ring.cur) (slots_refusal side whole pool named [] 0 pushed) fault
-    (λ (f : SyncFault) (h : slots_refusal side whole pool named [] 0 pushed ≡ Some f). slots_are_checks side whole pool named [] 0 pushed f h) e
+refusals_are_checks side whole pool named ring pushed fault e = refusal-is_check side whole pool named ring pushed fault e
 
 pub pushed_frames_are_sent : PushedFramesAreSent
 pushed_frames_are_sent bytes_of whole pool named pushed passes = passed-sent bytes_of whole pool named pushed passes
 
+pub pushed_bytes_are_sent : PushedBytesAreSent
+pushed_bytes_are_sent bytes_of whole pool named pushed passes = passed-bytes bytes_of whole pool named pushed passes
+
 pub whole_slots_are_frames : WholeSlotsAreFrames
 whole_slots_are_frames bytes_of pool named pushed passes = passed-each bytes_of pool named pushed passes
 
-pub ruleset check_laws = (passed_positions_fit, passed_slots_pass, fitting_passes, passed_names_once, refusals_are_checks, pushed_frames_are_sent, whole_slots_are_frames)
+pub ruleset check_laws = (passed_positions_fit, passed_slots_pass, fitting_passes, passed_names_once, refusals_are_checks, pushed_frames_are_sent, pushed_bytes_are_sent, whole_slots_are_frames)
 
 pub exchange_brings_named : ExchangeBringsNamed
 exchange_brings_named held place idx was e = exchanged_here held place idx was e

@@ -1,12 +1,13 @@
 -- Laws of the checks of a sync, and of the exchange that an accepted one makes.
-use Rattle.std.specs.Prelude.{ℕ, Bool, ◌≡◌, ◌≢◌, nat_eq, true, List, [], length, map, Some}
+use Rattle.std.specs.Prelude.{ℕ, Bool, ◌≡◌, ◌≢◌, nat_eq, true, List, [], length, map, flat_map, Some}
 use Rattle.std.specs.List.{IsDistinct}
 use Rattle.nm_types.specs.declared.id.Side.{Side}
 use Rattle.nm_types.specs.declared.fault.SyncFault.{SyncFault}
 use Rattle.nm_types.specs.declared.place.Place.{Place}
 use Rattle.nm_types.specs.Positions.{RingState, FitsRing}
 use Rattle.nm_types.specs.declared.id.Side.TheVariants.{Tx}
-use Rattle.nm_types.specs.Slots.{Pushed, slot_of_pushed, frame_at, pushed_frames}
+use Rattle.nm_types.specs.Frames.{Frame}
+use Rattle.nm_types.specs.Slots.{Pushed, slot_of_pushed, bytes_in_slot, frame_at, pushed_frames}
 use Rattle.nm_types.specs.Sendable.{AreSent}
 use Rattle.nm_types.specs.Places.{Held, held_at, is_same_place}
 use Rattle.nm_types.specs.Exchange.{exchanged, Naming, after_push, EachBufferOnce, EachIsHeld, EachNamed}
@@ -59,6 +60,11 @@ PushedHoldNames = (namings : List Naming) (held : List Held) → EachBufferOnce 
 abbrev pub PushedFramesAreSent : Type 0
 PushedFramesAreSent = (bytes_of : ℕ → List ℕ) (whole : Bool) (pool : ℕ) (named : List ℕ) (pushed : List Pushed) → EachPasses Tx whole pool named [] 0 pushed
     → AreSent (pushed_frames bytes_of pushed) (length pushed)
+
+-- and they have all bytes of the slots
+abbrev pub PushedBytesAreSent : Type 0
+PushedBytesAreSent = (bytes_of : ℕ → List ℕ) (whole : Bool) (pool : ℕ) (named : List ℕ) (pushed : List Pushed) → EachPasses Tx whole pool named [] 0 pushed
+    → flat_map (λ (f : Frame). f.bytes) (pushed_frames bytes_of pushed) ≡ flat_map (bytes_in_slot bytes_of) (map slot_of_pushed pushed)
 
 -- where each slot is to be a frame, each is one
 abbrev pub WholeSlotsAreFrames : Type 0

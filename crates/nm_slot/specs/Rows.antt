@@ -111,3 +111,10 @@ sixty_four_slots = refl
 
 sixty_five_slots : many_refusal 64 ≡ Some (Fragment 63)
 sixty_five_slots = refl
+
+-- the count begins again behind a frame that ended
+abbrev forty_from : ℕ → List Pushed
+forty_from at = map going_on (range_with_len at 39) ++ pushed_at (at + 39) (at + 41) (at + 41) 0 ∷ []
+
+twice_forty_slots : slots_refusal Tx false 128 (range_with_len 2 80) [] 0 (forty_from 0 ++ forty_from 40) ≡ None
+twice_forty_slots = refl

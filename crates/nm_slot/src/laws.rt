@@ -5,7 +5,7 @@
 ghost use Rattle.nm_slot.specs.Laws.{PassedPositionsFit, PassedSlotsPass, FittingPasses};
 ghost use Rattle.nm_slot.specs.Laws.{PassedNamesOnce, RefusalsAreChecks, ExchangeBringsNamed};
 ghost use Rattle.nm_slot.specs.Laws.{ExchangeGivesBack, ExchangeLeavesOthers, ExchangeKeepsOnce};
-ghost use Rattle.nm_slot.specs.Laws.{PushedFramesAreSent, PushedHoldNames, WholeSlotsAreFrames};
+ghost use Rattle.nm_slot.specs.Laws.{PushedBytesAreSent, PushedFramesAreSent, PushedHoldNames, WholeSlotsAreFrames};
 
 /// No check refuses a sync exactly if its positions fit and each pushed slot passes.
 pub fn checks_pass_what_fits()
@@ -24,9 +24,11 @@ pub fn refusals_are_checks()
     ensures { RefusalsAreChecks }
 {}
 
-/// The frames of an accepted push can be sent; where each slot is to be a frame, each is one.
+/// The frames of an accepted push can be sent, and have all bytes of its slots; where each slot is to be
+/// a frame, each is one.
 pub fn pushed_frames_are_sent()
     ensures sent { PushedFramesAreSent }
+    ensures bytes { PushedBytesAreSent }
     ensures whole { WholeSlotsAreFrames }
 {}
 

@@ -9,6 +9,7 @@ pub mod Sizes
 pub mod RingSteps
 pub mod RingChecks
 pub mod SlotChecks
+pub mod CheckFaults
 pub mod JoinedFrames
 pub mod PutParts
 pub mod Exchanges

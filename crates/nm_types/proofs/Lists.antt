@@ -1,5 +1,5 @@
 -- Laws of lists that several crates use.
-use Rattle.std.proofs.Common.{ℕ, zero, suc, List, [], ◌∷◌, ◌≡◌, ◌+◌, ◌&&◌, ◌++◌, Bool, drop, refl, arith, slice_get, Some}
+use Rattle.std.proofs.Common.{ℕ, zero, suc, List, [], ◌∷◌, ◌≡◌, ◌<◌, ◌+◌, ◌&&◌, ◌++◌, Bool, length, drop, get_or, refl, arith, slice_get, Some}
 use Rattle.std.specs.List.{list_all, AllByRecursion as Each}
 
 -- what is left from an element on
@@ -10,6 +10,11 @@ drop-slice_get (y ∷ ys) (suc i) x e =
     let rest = drop-slice_get ys i x e in
     let next : suc i + 1 ≡ suc (i + 1) = omega arith in
     rw next rest
+
+pub drop-get_or : {X : Type 0} (xs : List X) (i : ℕ) (d : X) → i < length xs → drop i xs ≡ get_or xs i d ∷ drop (i + 1) xs
+drop-get_or [] i d within = absurd (omega (arith, within))
+drop-get_or (x ∷ xs) zero d within = refl
+drop-get_or (x ∷ xs) (suc i) d within = let next : suc i + 1 ≡ suc (i + 1) = omega arith in rw next (drop-get_or xs i d (omega (arith, within)))
 
 -- a test of all elements from one on, cut at that one
 pub list_all-drop : {X : Type 0} (p : X → Bool) (xs : List X) (i : ℕ) (x : X) → slice_get xs i ≡ Some x → list_all p (drop i xs) ≡ (p x && list_all p (drop (i + 1) xs))

@@ -5,7 +5,7 @@ use Rattle.nm_types.specs.OwnPorts.{OwnState}
 use Rattle.nm_types.specs.OwnEdits.{with_part, with_frame, has_room}
 use Rattle.nm_types.proofs.PartLemmas.{parts-one}
 
-pub with_frame-one : (id : ℕ) (bytes : List ℕ) (s : OwnState) → length bytes ≤ 2048 → with_frame id bytes s ≡ (if has_room s id bytes then with_part id false bytes s else s)
+pub with_frame-one : (id : ℕ) (bytes : List ℕ) (s : OwnState) → length bytes ≤ 2048 → with_frame id bytes s ≡ (if has_room s id (length bytes) then with_part id false bytes s else s)
 with_frame-one id bytes s h = rw (parts-one bytes h) refl
 
 pub extended-last : (more : List ℕ) (fs : List Frame) (f : Frame) → extended more (fs ++ f ∷ []) ≡ fs ++ record f { bytes = f.bytes ++ more } ∷ []

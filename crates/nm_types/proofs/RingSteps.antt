@@ -45,10 +45,6 @@ dist-cases size from to f t = elim (mod-cases size (to + size - from) (omega ari
 pub step_on-cases : (size at k : ℕ) → at < size → k ≤ size → (step_on size at k ≡ at + k) ⊎ (step_on size at k + size ≡ at + k)
 step_on-cases size at k a h = mod-cases size (at + k) (omega arith)
 
--- two numbers of steps below the size that lead to the same position are one
-one_way : (size from to d e : ℕ) → d < size → e < size → (from + d ≡ to) ⊎ (from + d ≡ to + size) → (from + e ≡ to) ⊎ (from + e ≡ to + size) → d ≡ e
-one_way size from to d e below small there here = grind arith
-
 pub dist-step_on : (size at k : ℕ) → at < size → k < size → dist size at (step_on size at k) ≡ k
 dist-step_on size at k a h =
     let stepped = step_on-cases size at k a (omega arith) in

@@ -1,5 +1,5 @@
 -- Slots that no check refuses are those that pass them all.
-use Rattle.std.proofs.Common.{ℕ, Bool, true, false, not, ◌&&◌, ◌||◌, ◌≡◌, ◌≢◌, ◌≤◌, ◌==◌, nat_lt, List, [], ◌∷◌, ◌++◌, Option, Some, None, option_map, if◌then◌else◌, nat_eq, eq-eqb, refl, ◌∙◌, ap, arith, inl, inr}
+use Rattle.std.proofs.Common.{ℕ, Bool, true, false, not, ◌&&◌, ◌||◌, ◌≡◌, ◌≢◌, ◌≤◌, ◌==◌, nat_lt, List, [], ◌∷◌, ◌++◌, length, Option, Some, None, option_map, if◌then◌else◌, nat_eq, eq-eqb, refl, ◌∙◌, ap, arith, inl, inr}
 use Rattle.std.specs.List.{list_all, IsDistinct, AllByRecursion}
 use Rattle.std.proofs.lemmas.Bool.{cases_Bool, eqb-true}
 use Rattle.std.proofs.lemmas.List.Folds.{list_any-append}
@@ -10,7 +10,7 @@ use Rattle.nm_types.specs.declared.refusal.SlotFault.{SlotFault}
 use Rattle.nm_types.specs.declared.fault.SyncFault.{SyncFault}
 use Rattle.nm_types.specs.Slots.{SlotState, Pushed, pushed_names, has_flag, goes_on, buf_changed, indirect}
 use Rattle.nm_types.specs.SyncFaults.{slot_sync_fault}
-use Rattle.nm_types.specs.SyncChecks.{is_tx, is_index_out, slot_refusal, slots_refusal, first_refusal, seen_of, begun_after, contains_index, PassesSlot, EachPasses, NamesOnce}
+use Rattle.nm_types.specs.SyncChecks.{is_tx, is_index_out, slot_refusal, slots_refusal, first_refusal, is_closing, seen_of, begun_after, contains_index, PassesSlot, EachPasses, NamesOnce}
 
 -- the first of seven answers, where none comes
 none_of_seven : {A : Type 0} → (a b c d e f g : Bool) (t u v w x y z : A)
@@ -70,7 +70,7 @@ PassesSlot-from_none side seen at slot e =
       once = none.3;
       announced = announced_where_other slot.buf_idx seen.was (has_flag buf_changed slot) none.4;
       fits_buffer = (λ (tx : is_tx side ≡ true). not_longer 2048 slot.len (both_false (is_tx side) (nat_lt 2048 slot.len) none.5 tx));
-      whole = (λ (tx : is_tx side ≡ true) (closing : seen.closing ≡ true). both_false seen.closing (goes_on slot) (both_false (is_tx side) (seen.closing && goes_on slot) none.6 tx) closing);
+      ends = (λ (tx : is_tx side ≡ true) (closing : seen.closing ≡ true). both_false seen.closing (goes_on slot) (both_false (is_tx side) (seen.closing && goes_on slot) none.6 tx) closing);
     }
 
 pub slot_refusal-passes : (side : Side) (seen : Seen) (at : ℕ) (slot : SlotState) → PassesSlot side seen slot → slot_refusal side seen at slot ≡ None
@@ -80,8 +80,8 @@ slot_refusal-passes side seen at slot p =
     let held : not seen.held ≡ false = ap not p.held in
     let announced = other_announced slot.buf_idx seen.was (has_flag buf_changed slot) p.announced in
     let short = false_both (is_tx side) (nat_lt 2048 slot.len) (λ (tx : is_tx side ≡ true). not_below 2048 slot.len (p.fits_buffer tx)) in
-    let whole = false_both (is_tx side) (seen.closing && goes_on slot) (λ (tx : is_tx side ≡ true). false_both seen.closing (goes_on slot) (p.whole tx)) in
-    rw (direct, index, held, p.once, announced, short, whole) refl
+    let ends = false_both (is_tx side) (seen.closing && goes_on slot) (λ (tx : is_tx side ≡ true). false_both seen.closing (goes_on slot) (p.ends tx)) in
+    rw (direct, index, held, p.once, announced, short, ends) refl
 
 -- a pushed range without a refusal, slot by slot
 pub refused_none : {A : Type 0} → (slot_sync : SlotFault → A) → (o : Option SlotFault) → option_map slot_sync o ≡ None → o ≡ None
@@ -99,17 +99,17 @@ later_none (Some fault) later e = cc
 pub EachPasses-from_none : (side : Side) (whole : Bool) (pool : ℕ) (named earlier : List ℕ) (begun : ℕ) (pushed : List Pushed) → slots_refusal side whole pool named earlier begun pushed ≡ None → EachPasses side whole pool named earlier begun pushed
 EachPasses-from_none side whole pool named earlier begun [] e = tt
 EachPasses-from_none side whole pool named earlier begun (p ∷ ps) e =
-    let refusal = slot_refusal side (seen_of whole pool named earlier begun ps p) p.at p.slot in
+    let refusal = slot_refusal side (seen_of (is_closing whole begun (length ps)) pool named earlier p) p.at p.slot in
     let others = slots_refusal side whole pool named (earlier ++ p.slot.buf_idx ∷ []) (begun_after begun p.slot) ps in
     let none = refused_none slot_sync_fault refusal (first_none (option_map slot_sync_fault refusal) others e) in (
-      PassesSlot-from_none side (seen_of whole pool named earlier begun ps p) p.at p.slot none,
+      PassesSlot-from_none side (seen_of (is_closing whole begun (length ps)) pool named earlier p) p.at p.slot none,
       EachPasses-from_none side whole pool named (earlier ++ p.slot.buf_idx ∷ []) (begun_after begun p.slot) ps (later_none (option_map slot_sync_fault refusal) others e),
     )
 
 pub slots_refusal-passes : (side : Side) (whole : Bool) (pool : ℕ) (named earlier : List ℕ) (begun : ℕ) (pushed : List Pushed) → EachPasses side whole pool named earlier begun pushed → slots_refusal side whole pool named earlier begun pushed ≡ None
 slots_refusal-passes side whole pool named earlier begun [] passes = refl
 slots_refusal-passes side whole pool named earlier begun (p ∷ ps) passes =
-    let first = slot_refusal-passes side (seen_of whole pool named earlier begun ps p) p.at p.slot passes.0 in
+    let first = slot_refusal-passes side (seen_of (is_closing whole begun (length ps)) pool named earlier p) p.at p.slot passes.0 in
     let rest = slots_refusal-passes side whole pool named (earlier ++ p.slot.buf_idx ∷ []) (begun_after begun p.slot) ps passes.1 in
     rw (first, rest) refl
 

@@ -13,7 +13,7 @@ use Rattle.nm_types.specs.Positions.{dist, step_on, is_user_slot, slots_from}
 use Rattle.nm_types.specs.Slots.{SlotState, goes_on, buf_changed, no_learn, indirect, more_fragments}
 use Rattle.nm_types.specs.SyncChecks.{ring_refusal, contains_index}
 use Rattle.nm_types.specs.Chain.{linked}
-use Rattle.nm_types.specs.OwnPorts.{OwnRing, OwnPort, OwnState, bytes_at, with_bytes, port_with_id, ring_at, with_port, with_ring, slot_in, with_slot, named_of}
+use Rattle.nm_types.specs.OwnPorts.{OwnRing, OwnPort, OwnState, bytes_at, with_bytes, port_with_id, ring_at, with_port, with_ring, slot_in, with_slot, named_of, is_whole_at}
 
 -- any numbers may be stored as head and cur
 abbrev pub ring_at_positions : ℕ → ℕ → OwnRing → OwnRing
@@ -87,9 +87,9 @@ with_slots_swapped announce here there s = with_two_slots announce here there s 
 abbrev pub has_slots : ℕ → OwnRing → Bool
 has_slots count r = is_none (ring_refusal r.ring r.ring.head r.ring.cur) && nat_le count (dist r.ring.size r.ring.head r.ring.tail)
 
--- room for a frame of these bytes
-abbrev pub has_room : OwnState → ℕ → List ℕ → Bool
-has_room s id bytes = option_map_or (has_slots (slots_of_length (length bytes))) (ring_at Tx s id) false
+-- room for a frame of this length
+abbrev pub has_room : OwnState → ℕ → ℕ → Bool
+has_room s id len = option_map_or (has_slots (slots_of_length len)) (ring_at Tx s id) false
 
 -- A frame at a transmit ring's head, each of its parts in a slot: the part's bytes are written over those
 -- of the buffer that the slot names, if that is a named one; the slot has its length and no mark of a
@@ -124,7 +124,7 @@ with_parts id [] s = s
 with_parts id (part ∷ parts) s = with_parts id parts (with_part id (not (length parts == 0)) part s)
 
 abbrev pub with_frame : ℕ → List ℕ → OwnState → OwnState
-with_frame id bytes s = if has_room s id bytes then with_parts id (parts_of bytes) s else s
+with_frame id bytes s = if has_room s id (length bytes) then with_parts id (parts_of bytes) s else s
 
 -- Forwarding without a copy, frame by frame: while a whole frame stands at the receive ring's head and
 -- the transmit ring has as many slots, their slots change the buffers that they name and say so, the
@@ -155,15 +155,19 @@ abbrev pub with_slots_forwarded : ℕ → ℕ → ℕ → OwnState → OwnState
 with_slots_forwarded zero from to s = s
 with_slots_forwarded (suc count) from to s = with_slots_forwarded count from to (with_heads_forwarded from to s (ring_at Rx s from) (ring_at Tx s to))
 
--- how many slots the frame at a receive ring's head has; 0 where it does not end before the tail
+-- how many slots of a row there are up to the first in which a frame ends; 0 where none does
 abbrev pub ends_here : SlotState → Bool
 ends_here slot = not (goes_on slot)
 
+abbrev pub slots_to_end : List SlotState → ℕ
+slots_to_end slots = option_map_or suc (position ends_here slots) 0
+
+-- how many slots the frame at a receive ring's head has; 0 where it does not end before the tail
 abbrev pub slots_before_tail : OwnRing → List SlotState
 slots_before_tail r = map (slot_in Rx r) (slots_from r.ring.size r.ring.head (dist r.ring.size r.ring.head r.ring.tail))
 
 abbrev pub frame_slots : OwnRing → ℕ
-frame_slots r = option_map_or suc (position ends_here (slots_before_tail r)) 0
+frame_slots r = slots_to_end (slots_before_tail r)
 
 -- the frame at the head may go: it ends before the tail, the positions of both rings fit, the other ring
 -- has as many slots, and it takes one where each slot is to be a frame
@@ -177,9 +181,12 @@ with_next_forwarded others whole from to s (Some rx) (Some tx) =
 with_next_forwarded others whole from to s _ _ = s
 
 -- up to so many frames; `whole` says that each slot of the other port is a frame
-abbrev pub with_forwarded : Bool → ℕ → ℕ → ℕ → OwnState → OwnState
-with_forwarded whole zero from to s = s
-with_forwarded whole (suc count) from to s = with_next_forwarded (with_forwarded whole count from to) whole from to s (ring_at Rx s from) (ring_at Tx s to)
+abbrev pub frames_forwarded : Bool → ℕ → ℕ → ℕ → OwnState → OwnState
+frames_forwarded whole zero from to s = s
+frames_forwarded whole (suc count) from to s = with_next_forwarded (frames_forwarded whole count from to) whole from to s (ring_at Rx s from) (ring_at Tx s to)
+
+abbrev pub with_forwarded : ℕ → ℕ → ℕ → OwnState → OwnState
+with_forwarded count from to s = frames_forwarded (is_whole_at s to) count from to s
 
 -- The link of an extra position, counted from 1, to another; 0 instead of the first one is the chain's
 -- head, and 0 instead of the second ends the chain.

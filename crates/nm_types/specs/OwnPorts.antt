@@ -1,6 +1,6 @@
 -- What a session has of its own, as the user of netmap(4) sees it: ports with their rings and slots,
 -- the buffers in their places, and the bytes of these buffers.
-use Rattle.std.specs.Prelude.{ℕ, Bool, ◌==◌, ◌+◌, if◌then◌else◌, List, [], ◌++◌, length, map, find, flat_map, slice_index, slice_index_or, slice_set, replicate, Option, Some, None, option_map, option_and_then}
+use Rattle.std.specs.Prelude.{ℕ, Bool, false, ◌==◌, ◌+◌, if◌then◌else◌, List, [], ◌++◌, length, map, find, flat_map, slice_index, slice_index_or, slice_set, replicate, Option, Some, None, option_map, option_and_then}
 use Rattle.std.specs.Option.{option_map_or}
 use Rattle.std.specs.Str.{bytes_eq}
 use Rattle.nm_types.specs.declared.id.PortId.{PortId}
@@ -133,6 +133,9 @@ pushed_count r = length (pushed_slots r.ring r.ring.head)
 -- a port each of whose slots is a frame: an end of a pipe
 abbrev pub is_whole : OwnPort → Bool
 is_whole p = is_pipe_name p.name
+
+abbrev pub is_whole_at : OwnState → ℕ → Bool
+is_whole_at s id = option_map_or is_whole (port_with_id s id) false
 
 abbrev pub refusal_in : Side → OwnState → OwnPort → OwnRing → Option SyncFault
 refusal_in side s p r = refusal_of side (is_whole p) s.pool (named_of s) r.ring (pushed_in side r)

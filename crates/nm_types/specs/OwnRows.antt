@@ -1,6 +1,6 @@
 -- Worked examples of what a session has of its own, as theorems about the definitions. The pool has 64
 -- buffers; ports and buffers are numbered as a script that opens them would number them.
-use Rattle.std.specs.Prelude.{ℕ, Bool, ◌≡◌, true, false, List, [], ◌∷◌, ◌++◌, map, replicate, codes, Option, Some, None, option_map, refl}
+use Rattle.std.specs.Prelude.{ℕ, Bool, ◌≡◌, true, false, List, [], ◌∷◌, ◌++◌, length, map, replicate, codes, Option, Some, None, option_map, refl}
 use Rattle.nm_types.specs.declared.id.Side.{Side}
 use Rattle.nm_types.specs.declared.id.Side.TheVariants.{Tx, Rx}
 use Rattle.nm_types.specs.declared.id.Chain.{Chain}
@@ -10,7 +10,8 @@ use Rattle.nm_types.specs.declared.fault.SyncFault.TheVariants.{HeadOut, CurOut,
 use Rattle.nm_types.specs.Positions.{RingState}
 use Rattle.nm_types.specs.Frames.{Frame}
 use Rattle.nm_types.specs.Names.{is_pipe_name}
-use Rattle.nm_types.specs.Slots.{SlotState, pushed_frames}
+use Rattle.nm_types.specs.Slots.{SlotState, part_flags, pushed_frames}
+use Rattle.nm_types.specs.Parts.{HeldPart, cut_frame}
 use Rattle.nm_types.specs.Chain.{linked}
 use Rattle.nm_types.specs.OwnPorts.{OwnRing, OwnPort, OwnState, Arrival, empty_own, bytes_at, with_bytes, port_with_id, ring_at, buffers_in, named_of, refusal_at, pushed_on}
 use Rattle.nm_types.specs.OwnSyncs.{own_after_open, own_after_send, own_after_put, own_after_receive, own_after_reset, own_after_finish, offered_slots, back_on, chain_in}
@@ -109,6 +110,10 @@ index_of_kept_slot = refl
 long_frame : refusal_on Tx 2 (first_slot 2 2049 0) ≡ Some (LongLen 0 2049)
 long_frame = refl
 
+-- that a frame goes on is the last check
+long_before_goes_on : refusal_on Tx 2 (first_slot 2 2049 32) ≡ Some (LongLen 0 2049)
+long_before_goes_on = refl
+
 indirect_slot : refusal_on Tx 2 (first_slot 2 14 16) ≡ Some (Indirect 0)
 indirect_slot = refl
 
@@ -147,8 +152,12 @@ reset_moves_nothing = refl
 reset_names_place : user_slot_at Tx (own_after_reset 2 Tx twice_named) 2 1 ≡ Some (record { buf_idx = 3; len = 0; flags = 0; ptr = 0 })
 reset_names_place = refl
 
+-- a frame that is put takes the marks of a former one away, and no others
+put_over_marks : user_slot_at Tx (with_frame 2 broadcast (with_slot_field Tx 2 0 (Flags 57) four_slots)) 2 0 ≡ Some (record { buf_idx = 2; len = 14; flags = 1; ptr = 0 })
+put_over_marks = refl
+
 -- a full ring has no room, and a shorter frame leaves the old bytes behind it
-three_put : has_room (with_frame 2 broadcast (with_frame 2 broadcast one_put)) 2 broadcast ≡ false
+three_put : has_room (with_frame 2 broadcast (with_frame 2 broadcast one_put)) 2 (length broadcast) ≡ false
 three_put = refl
 
 old_bytes_stay : frames_on 2 (with_user_slot Tx 2 0 (record { buf_idx = 2; len = 3; flags = 0; ptr = 0 }) (with_frame 2 (1 ∷ []) (with_positions Tx 2 0 0 one_put)))
@@ -241,17 +250,28 @@ quiet_swap_refused_there = refl
 
 -- forwarding does the same, with the length, and moves all four positions
 abbrev forwarded : OwnState
-forwarded = with_forwarded false 9 4 4 second_user
+forwarded = with_forwarded 9 4 4 second_user
 
 forward_accepted : refusal_on Tx 4 forwarded ≡ None
 unfolding is_pipe_name
 forward_accepted = refl
 
 forward_frames : frames_on 4 forwarded ≡ frame_of broadcast ∷ []
+unfolding is_pipe_name
 forward_frames = refl
 
 forward_back : back_on 4 (own_after_send 4 forwarded) ≡ 10 ∷ []
+unfolding is_pipe_name
 forward_back = refl
+
+-- the slot that goes on says so no longer
+forward_ends : user_slot_at Tx (with_forwarded 9 4 4 (with_slot_field Tx 4 0 (Flags 32) second_user)) 4 0 ≡ Some (record { buf_idx = 14; len = 14; flags = 1; ptr = 0 })
+unfolding is_pipe_name
+forward_ends = refl
+
+-- a received slot may say what it will
+received_may_go_on : refusal_on Rx 4 (with_all_back 4 (with_slot_field Rx 4 0 (Flags 32) second_user)) ≡ None
+received_may_go_on = refl
 
 -- A ring of 2 slots and three extra buffers, 6, 7 and 8.
 
@@ -428,6 +448,19 @@ pipe_goes_on : refusal_on Tx 3 (with_slot_field Tx 3 0 (Flags 32) pipe_pushed) �
 unfolding is_pipe_name
 pipe_goes_on = refl
 
+-- a frame of 4,097 bytes is received in three parts
+abbrev cut_long : List HeldPart
+cut_long = cut_frame (replicate 4097 7)
+
+cut_lengths : map (λ (part : HeldPart). length part.bytes) cut_long ≡ 2048 ∷ 2048 ∷ 1 ∷ []
+cut_lengths = refl
+
+cut_rests : map (λ (part : HeldPart). part.rest) cut_long ≡ 2 ∷ 1 ∷ 0 ∷ []
+cut_rests = refl
+
+cut_flags : map part_flags (2 ∷ 1 ∷ 0 ∷ 63 ∷ []) ≡ 544 ∷ 288 ∷ 0 ∷ 16160 ∷ []
+cut_flags = refl
+
 -- received parts: the slot of each tells whether its frame goes on, and how many follow
 abbrev two_received : OwnState
 two_received = own_after_receive 4 (record { buffer = 14; bytes = broadcast; rest = 1 } ∷ record { buffer = 15; bytes = 1 ∷ 2 ∷ 3 ∷ []; rest = 0 } ∷ []) (own_after_open 4 (codes "vale0:b") 4 4 (map arrival (10 ∷ 11 ∷ 12 ∷ 13 ∷ [])) (empty_own 64))
@@ -440,9 +473,15 @@ last_part = refl
 
 -- forwarded as one frame
 abbrev two_forwarded : OwnState
-two_forwarded = with_forwarded false 9 4 4 two_received
+two_forwarded = with_forwarded 9 4 4 two_received
+
+-- which is one, however many slots it has
+one_forwarded_frames : frames_on 4 (with_forwarded 1 4 4 two_received) ≡ frame_of (broadcast ++ 1 ∷ 2 ∷ 3 ∷ []) ∷ []
+unfolding is_pipe_name
+one_forwarded_frames = refl
 
 two_forwarded_frames : frames_on 4 two_forwarded ≡ frame_of (broadcast ++ 1 ∷ 2 ∷ 3 ∷ []) ∷ []
+unfolding is_pipe_name
 two_forwarded_frames = refl
 
 two_forwarded_accepted : refusal_on Tx 4 two_forwarded ≡ None
@@ -450,13 +489,29 @@ unfolding is_pipe_name
 two_forwarded_accepted = refl
 
 two_forwarded_back : back_on 4 (own_after_send 4 two_forwarded) ≡ 10 ∷ 11 ∷ []
+unfolding is_pipe_name
 two_forwarded_back = refl
 
--- not to a port each of whose slots is a frame, nor where the other ring has too few slots
-not_forwarded_whole : with_forwarded true 9 4 4 two_received ≡ two_received
+-- not where it does not end before the tail
+abbrev endless : OwnState
+endless = with_slot_field Rx 4 1 (Flags 32) two_received
+
+not_forwarded_endless : with_forwarded 9 4 4 endless ≡ endless
+not_forwarded_endless = refl
+
+-- not to a pipe's end, each of whose slots is a frame, nor where the other ring has too few slots
+abbrev with_pipe : OwnState → OwnState
+with_pipe s = own_after_open 3 (codes "pipe0{") 4 4 (map arrival (2 ∷ 3 ∷ 4 ∷ 5 ∷ [])) s
+
+not_forwarded_whole : with_forwarded 9 4 3 (with_pipe two_received) ≡ with_pipe two_received
+unfolding is_pipe_name
 not_forwarded_whole = refl
 
-not_forwarded_full : with_forwarded false 9 4 4 (with_positions Tx 4 2 2 two_received) ≡ with_positions Tx 4 2 2 two_received
+one_slot_forwarded_whole : frames_on 3 (with_forwarded 9 4 3 (with_pipe second_user)) ≡ frame_of broadcast ∷ []
+unfolding is_pipe_name
+one_slot_forwarded_whole = refl
+
+not_forwarded_full : with_forwarded 9 4 4 (with_positions Tx 4 2 2 two_received) ≡ with_positions Tx 4 2 2 two_received
 not_forwarded_full = refl
 
 -- a frame of one byte more than a buffer: two slots
@@ -471,3 +526,7 @@ long_put_second = refl
 
 long_put_positions : positions_on Tx 2 long_put ≡ Some (record { size = 4; head = 2; cur = 2; tail = 3; accepted_head = 0; last_tail = 3 })
 long_put_positions = refl
+
+-- where one slot is left it is not put
+long_not_put : with_frame 2 (replicate 2049 7) two_put ≡ two_put
+long_not_put = refl

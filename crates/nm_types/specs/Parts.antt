@@ -1,11 +1,11 @@
--- A frame lies in buffers of 2048 bytes, one behind the other: each of its parts fills one, but for
--- the last part.
+-- A frame lies in buffers, one behind the other: each of its parts fills one, but for the last part.
 use Rattle.std.specs.Prelude.{ℕ, suc, zero, ◌≤◌, nat_le, if◌then◌else◌, List, [], ◌∷◌, length, take, drop, flat_map}
 use Rattle.std.specs.Int.{div_ceil}
+use Rattle.nm_types.specs.Limits.{buffer_bytes}
 
 -- how many slots a frame of this length takes
 abbrev pub slots_of_length : ℕ → ℕ
-slots_of_length len = if nat_le len 2048 then 1 else div_ceil len 2048
+slots_of_length len = if nat_le len buffer_bytes then 1 else div_ceil len buffer_bytes
 
 -- how many a frame of these bytes takes
 abbrev pub slots_of_bytes : List ℕ → ℕ
@@ -14,10 +14,10 @@ slots_of_bytes bytes = slots_of_length (length bytes)
 -- the first parts of these bytes, so many
 abbrev pub first_parts : ℕ → List ℕ → List (List ℕ)
 first_parts zero bytes = []
-first_parts (suc count) bytes = take 2048 bytes ∷ first_parts count (drop 2048 bytes)
+first_parts (suc count) bytes = take buffer_bytes bytes ∷ first_parts count (drop buffer_bytes bytes)
 
 abbrev pub IsPart : List ℕ → Type 0
-IsPart part = length part ≤ 2048
+IsPart part = length part ≤ buffer_bytes
 
 -- the parts of a frame
 abbrev pub parts_of : List ℕ → List (List ℕ)

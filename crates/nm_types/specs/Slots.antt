@@ -31,9 +31,12 @@ HasFlag flag slot = has_flag flag slot ≡ true
 abbrev pub slot_after_push : SlotState → SlotState
 slot_after_push slot = record slot { flags = without 16 slot.flags buf_changed }
 
--- the frame of a slot: the first bytes of the buffer that it names
+-- the bytes of a slot: the first ones of the buffer that it names; and the frame of it alone
+abbrev pub bytes_in_slot : (ℕ → List ℕ) → SlotState → List ℕ
+bytes_in_slot bytes_of slot = take slot.len (bytes_of slot.buf_idx)
+
 abbrev pub frame_at : (ℕ → List ℕ) → SlotState → Frame
-frame_at bytes_of slot = record { bytes = take slot.len (bytes_of slot.buf_idx); no_learn = has_flag no_learn slot }
+frame_at bytes_of slot = record { bytes = bytes_in_slot bytes_of slot; no_learn = has_flag no_learn slot }
 
 -- a slot whose frame goes on in the next one
 abbrev pub goes_on : SlotState → Bool
@@ -42,7 +45,7 @@ goes_on slot = has_flag more_fragments slot
 -- a frame that began in the slots before, with this slot's bytes; or else one that begins in it
 abbrev pub with_slot_bytes : (ℕ → List ℕ) → Option Frame → SlotState → Frame
 with_slot_bytes bytes_of None slot = frame_at bytes_of slot
-with_slot_bytes bytes_of (Some begun) slot = record begun { bytes = begun.bytes ++ take slot.len (bytes_of slot.buf_idx) }
+with_slot_bytes bytes_of (Some begun) slot = record begun { bytes = begun.bytes ++ bytes_in_slot bytes_of slot }
 
 -- the frames that end in these slots, where the first one may have begun before them
 abbrev pub joined_frames : (ℕ → List ℕ) → Option Frame → List SlotState → List Frame

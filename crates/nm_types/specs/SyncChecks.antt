@@ -56,29 +56,30 @@ pub record PassesSlot (side : Side) (seen : Seen) (slot : SlotState) : Type 0 wh
   pub once : seen.doubled ≡ false
   pub announced : slot.buf_idx ≢ seen.was → HasFlag buf_changed slot
   pub fits_buffer : is_tx side ≡ true → slot.len ≤ buffer_bytes
-  pub whole : is_tx side ≡ true → seen.closing ≡ true → goes_on slot ≡ false
+  pub ends : is_tx side ≡ true → seen.closing ≡ true → goes_on slot ≡ false
 
 abbrev pub contains_index : List ℕ → ℕ → Bool
 contains_index buffers idx = list_any (λ b. b == idx) buffers
 
--- a frame must end in a pushed slot, behind so many slots of the same frame: where each slot is a frame
--- by itself, as in a pipe, in the last slot pushed, and in the last one that a frame may have
-abbrev pub is_closing : Bool → ℕ → List Pushed → Bool
-is_closing whole begun others = whole || (length others == 0 || begun + 1 == most_frame_slots)
+-- a frame must end in a pushed slot, behind so many slots of the same frame and before so many others:
+-- where each slot is a frame by itself, as in a pipe, in the last slot pushed, and in the last one that
+-- a frame may have
+abbrev pub is_closing : Bool → ℕ → ℕ → Bool
+is_closing whole begun left = whole || (left == 0 || begun + 1 == most_frame_slots)
 
--- how many slots of the frame that goes on there are behind this slot
+-- how many slots of the frame that goes on there are up to and with this slot
 abbrev pub begun_after : ℕ → SlotState → ℕ
 begun_after begun slot = if goes_on slot then begun + 1 else 0
 
--- what a sync of a pool of so many buffers knows of a pushed slot, by the session's named buffers and
--- those that the slots before it name, the slots of its frame before it, and the slots behind it
-abbrev pub seen_of : Bool → ℕ → List ℕ → List ℕ → ℕ → List Pushed → Pushed → Seen
-seen_of whole pool named earlier begun others pushed = record {
+-- what a sync of a pool of so many buffers knows of a pushed slot, by whether a frame must end in it, the
+-- session's named buffers, and those that the slots before it name
+abbrev pub seen_of : Bool → ℕ → List ℕ → List ℕ → Pushed → Seen
+seen_of closing pool named earlier pushed = record {
   was = pushed.was;
   top = pool + 1;
   held = contains_index named pushed.slot.buf_idx;
   doubled = contains_index earlier pushed.slot.buf_idx;
-  closing = is_closing whole begun others;
+  closing = closing;
 }
 
 -- the first of two refusals
@@ -91,7 +92,7 @@ first_refusal None later = later
 abbrev pub slots_refusal : Side → Bool → ℕ → List ℕ → List ℕ → ℕ → List Pushed → Option SyncFault
 slots_refusal side whole pool named earlier begun [] = None
 slots_refusal side whole pool named earlier begun (pushed ∷ others) =
-    first_refusal (option_map slot_sync_fault (slot_refusal side (seen_of whole pool named earlier begun others pushed) pushed.at pushed.slot))
+    first_refusal (option_map slot_sync_fault (slot_refusal side (seen_of (is_closing whole begun (length others)) pool named earlier pushed) pushed.at pushed.slot))
     (slots_refusal side whole pool named (earlier ++ pushed.slot.buf_idx ∷ []) (begun_after begun pushed.slot) others)
 
 -- the first refusal of a sync at the ring's own head and cur
@@ -107,7 +108,7 @@ PassesChecks side whole pool named ring pushed = refusal_of side whole pool name
 abbrev pub EachPasses : Side → Bool → ℕ → List ℕ → List ℕ → ℕ → List Pushed → Type 0
 EachPasses side whole pool named earlier begun [] = Unit {0}
 EachPasses side whole pool named earlier begun (pushed ∷ others) =
-    PassesSlot side (seen_of whole pool named earlier begun others pushed) pushed.slot
+    PassesSlot side (seen_of (is_closing whole begun (length others)) pool named earlier pushed) pushed.slot
     × EachPasses side whole pool named (earlier ++ pushed.slot.buf_idx ∷ []) (begun_after begun pushed.slot) others
 
 -- what accepted slots name: buffers of the session, none of them twice

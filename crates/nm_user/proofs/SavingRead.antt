@@ -4,7 +4,6 @@ use Rattle.std.specs.Prelude.{if◌then◌else◌, nat_le}
 use Rattle.std.specs.Option.{option_map_or}
 use Rattle.std.specs.List.{zip}
 use Rattle.std.proofs.lemmas.Bool.{eqb-true, eq-eqb, and_parts, leb-true}
-use Rattle.std.proofs.lemmas.List.{take-append-drop}
 use Rattle.nm_types.specs.Frames.{Frame}
 use Rattle.nm_types.specs.Parts.{HeldPart, cut_frames}
 use Rattle.nm_types.specs.Positions.{RingState, step_on}
@@ -28,16 +27,16 @@ use Rattle.vale_entry.specs.Delivered.{read_by, of_entry_in, frames_at}
 use Rattle.vale_entry.specs.Delivery.{ready_lots, delivered_frames}
 use Rattle.vale_entry.specs.Holdings.{delivered_buffers, is_buffer_index}
 use Rattle.vale_entry.specs.OwnCalls.{own_by, or_reset, back_in, rx_call}
-use Rattle.vale_entry.specs.Legal.{Standing, IsLegal, standing_of, kept_ask, step, session_and_reply, made_at, can_reset, reset_step}
+use Rattle.vale_entry.specs.Legal.{Standing, IsLegal, standing_of, kept_ask, step, session_and_reply, made_at, can_reset, reset_step, fresh_standing}
 use Rattle.vale_entry.proofs.Counting.{count_of, count_of-append}
 use Rattle.vale_entry.proofs.Each.{each-find}
 use Rattle.vale_entry.proofs.ListLaws.{place-of}
 use Rattle.vale_entry.proofs.PortAt.{find-map}
 use Rattle.vale_entry.proofs.HistoryLaws.{history-stands}
+use Rattle.vale_entry.proofs.Worlds.{legal-take}
 use Rattle.vale_own.specs.Own.{own_of, buffers_of_lease}
 use Rattle.vale_own.specs.Side.{IsSoundPort, buffers_on}
 use Rattle.vale_own.proofs.Buffers.{buffers-apart, came-length, size-parts}
-use Rattle.vale_own.proofs.OwnKept.{legal-split}
 use Rattle.vale_own.proofs.SidePlaces.{in-port, in-ports}
 use Rattle.vale_book.specs.Reading.{read_ask}
 use Rattle.vale_fabric.specs.Fabrics.{entry_by}
@@ -201,9 +200,6 @@ came-here {t} s id came p g there own =
 
 -- ---- the law
 
-legal-before : (pool n : ℕ) (history : List Entry) → IsLegal pool history → IsLegal pool (take n history)
-legal-before pool n history legal = (legal-split pool (take n history) (drop n history) (subst (IsLegal pool) (sym (take-append-drop n history)) legal)).0
-
 -- the read of a receive sync, and what it found
 pub record IsRead (s t : SessionState) (id : ℕ) (received : Received) : Type 0 where
   pub at : Port
@@ -225,7 +221,7 @@ is-read {s} {t} {id} {received} there is =
     let call : rx_call s.own p ≡ read_ask pipe p.id back = ap (λ (o : Option SyncFault). or_reset o p.id Rx (let get : Ask = Get p.id back in let sync : Ask = Sync p.id back in if pipe then get else sync)) none ∙ call-of pipe p.id back in
     let st = stepped pipe now p.id back s.id (Gave received.gave is.to) (subst (λ (ask : Ask). option_map session_and_reply (step now ask) ≡ Some (s.id, Gave received.gave is.to)) call sync.steps) in
     let same : p.id.0 ≡ id = eqb-true p.id.0 id (place-of (λ (q : OwnPort). q.id.0 == id) s.own.ports p is.at.found).passes in
-    let given-here = given pool history p.id st.at (legal-before pool (sync.number - 1) t.knows.seen there.legal) st.found in
+    let given-here = given pool history p.id st.at (legal-take (fresh_standing pool) t.knows.seen (sync.number - 1) there.legal) st.found in
     let entry = entry_by s.id (rx_call s.own p) (Gave received.gave is.to) in
     let stands : slice_get t.knows.seen (sync.number - 1) ≡ Some entry = (sync.told.stand 0 sync.number entry refl).1 in
     let reads : of_entry_in read_by id now.world entry ≡ delivered_frames st.at = ap (λ (ask : Ask). read_by id now.world (kept_ask ask) entry.reply) call ∙ read-reads pipe now p.id back id st.at entry.reply same st.found in

@@ -1,5 +1,5 @@
 -- The frames in the last slots of a receive ring that has just got them.
-use Rattle.std.proofs.Common.{ℕ, suc, ◌+◌, ◌-◌, ◌<◌, ◌≤◌, ◌≡◌, ◌⊎◌, ◌==◌, Bool, true, false, ◌&&◌, nat_lt, List, [], ◌∷◌, ◌++◌, map, fold, take, length, get_or, Option, Some, None, option_map, refl, sym, ◌∙◌, ap, subst, arith, length-append, append_assoc}
+use Rattle.std.proofs.Common.{ℕ, suc, ◌+◌, ◌-◌, ◌<◌, ◌≤◌, ◌≡◌, ◌⊎◌, ◌==◌, Bool, true, false, ◌&&◌, nat_lt, List, [], ◌∷◌, ◌++◌, map, fold, take, length, get_or, Option, Some, None, refl, sym, ◌∙◌, ap, subst, arith, length-append, append_assoc}
 use Rattle.std.specs.Prelude.{option_and_then, unwrap_or, if◌then◌else◌, ◌%◌}
 use Rattle.std.specs.List.{AllByRecursion as Each}
 use Rattle.std.specs.Option.{option_map_or}
@@ -12,21 +12,29 @@ use Rattle.nm_types.proofs.Tests.{less_true}
 use Rattle.nm_types.specs.declared.id.Side.TheVariants.{Rx}
 use Rattle.nm_types.specs.Buffers.{cleared_but}
 use Rattle.nm_types.specs.Parts.{cut_frames}
-use Rattle.nm_types.specs.Positions.{dist, step_on, slots_from, is_user_slot}
+use Rattle.nm_types.specs.Positions.{RingState, dist, step_on, slots_from, is_user_slot}
 use Rattle.nm_types.specs.Slots.{SlotState}
 use Rattle.nm_types.specs.SyncChecks.{contains_index}
+use Rattle.nm_types.specs.OwnEdits.{user_slot}
 use Rattle.nm_types.specs.OwnPorts.{OwnRing, OwnPort, OwnState, Arrival, bytes_at, blank_slot, port_with_id, ring_at, ring_on, slot_in, named_of, user_buffers_if}
 use Rattle.nm_types.specs.OwnSyncs.{published, with_arrival, buffers_of_arrivals}
 use Rattle.nm_types.proofs.RingSteps.{dist-below, dist-cases, dist-step_on, step_on-cases, step_on-below, step_on-size, step_on-step_on, slots_from-add}
-use Rattle.nm_own.specs.ExtraChain.{named_bytes}
 use Rattle.vale_entry.specs.Holdings.{contains}
 use Rattle.vale_entry.proofs.Counting.{count_of, count_of-cons, count_of-append}
 use Rattle.vale_own.proofs.SideMoves.{one_if, came-other}
 use Rattle.vale_own.proofs.SidePlaces.{in-first, in-second, named-in-ports}
 use Rattle.vale_own.specs.Side.{IsRxRing}
 use Rattle.nm_port.specs.Gathered.{gathered}
-use Rattle.nm_user.specs.Saving.{before_tail, slot_before_tail, bytes_or_none, readable_bytes, slot_or_blank, count_to_tail, slots_to_tail, frames_in_slots, frames_from, bytes_of_frame}
+use Rattle.nm_user.specs.Saving.{bytes_or_none, readable_bytes, slot_or_blank, count_to_tail, slots_to_tail, frames_in_slots, frames_from, bytes_of_frame}
 use Rattle.nm_user.proofs.JoinedParts.{Holds, part_in_arrival, joined-again}
+
+-- the position so many steps before a ring's tail, going round
+abbrev before_tail : ℕ → RingState → ℕ
+before_tail back ring = step_on ring.size ring.tail (ring.size - back)
+
+-- the slot there, if it is one of the user's: 1 step back is the last that came
+abbrev slot_before_tail : ℕ → OwnRing → Option SlotState
+slot_before_tail back r = user_slot Rx r (before_tail back r.ring)
 
 -- ---- positions
 

@@ -1,9 +1,9 @@
 -- What a session finds before the tail of a port's receive ring, and what its port has read.
-use Rattle.std.specs.Prelude.{ℕ, ◌≡◌, ◌-◌, nat_lt, false, if◌then◌else◌, List, [], map, take, slice_get, unwrap_or, Option, None, option_map, option_and_then}
+use Rattle.std.specs.Prelude.{ℕ, ◌≡◌, ◌-◌, nat_lt, false, if◌then◌else◌, List, [], map, take, slice_get, unwrap_or, Option, None}
 use Rattle.std.specs.Option.{option_map_or}
 use Rattle.nm_types.specs.declared.id.Side.TheVariants.{Rx}
 use Rattle.nm_types.specs.Frames.{Frame}
-use Rattle.nm_types.specs.Positions.{RingState, dist, step_on, slots_from}
+use Rattle.nm_types.specs.Positions.{RingState, dist, slots_from}
 use Rattle.nm_types.specs.Slots.{SlotState}
 use Rattle.nm_types.specs.OwnPorts.{OwnRing, OwnState, blank_slot, ring_at}
 use Rattle.nm_types.specs.OwnEdits.{user_slot, user_slot_at}
@@ -15,23 +15,6 @@ use Rattle.vale_entry.specs.Delivered.{of_entry_in, read_by}
 use Rattle.nm_user.specs.declared.receiving.Received.{Received}
 use Rattle.nm_user.specs.Sessions.{SessionState, IsThere}
 use Rattle.nm_user.specs.Receives.{IsReceived}
-
--- the position so many steps before a ring's tail, going round
-abbrev pub before_tail : ℕ → RingState → ℕ
-before_tail back ring = step_on ring.size ring.tail (ring.size - back)
-
--- the slot there, if it is one of the user's: 1 step back is the last that came
-abbrev pub slot_before_tail : ℕ → OwnRing → Option SlotState
-slot_before_tail back r = user_slot Rx r (before_tail back r.ring)
-
--- the part of a frame in a slot: the first bytes, as many as its length says, of the buffer that it names;
--- none where the user may not name that buffer
-abbrev pub frame_of_slot : OwnState → SlotState → Option (List ℕ)
-frame_of_slot s slot = option_map (take slot.len) (named_bytes s slot.buf_idx)
-
-abbrev pub frame_before_tail : OwnState → ℕ → ℕ → Option (List ℕ)
-frame_before_tail s id back =
-    option_and_then (frame_of_slot s) (option_and_then (slot_before_tail back) (ring_at Rx s id))
 
 -- no bytes for no frame
 abbrev pub bytes_or_none : Option (List ℕ) → List ℕ

@@ -1,5 +1,5 @@
 -- The words of other crates that the contracts have in common, in one place.
-pub use Rattle.nm_own.specs.Acts.{has_room_for, is_whole_at, place_seen}
+pub use Rattle.nm_own.specs.Acts.{place_seen}
 pub use Rattle.nm_own.specs.Copies.{AreCopies, with_copies}
 pub use Rattle.nm_own.specs.ExtraChain.{extra_at, head_of_extras, named_bytes}
 pub use Rattle.nm_own.specs.LentOffers.{offered_buffers}
@@ -18,7 +18,7 @@ pub use Rattle.nm_turn.specs.Shares.{IsWhole}
 pub use Rattle.nm_types.specs.Faults.{sync_fault_of}
 pub use Rattle.nm_types.specs.Names.{IsName, is_monitor_name, is_pipe_name}
 pub use Rattle.nm_types.specs.Openings.{are_sizes, is_ring_size}
-pub use Rattle.nm_types.specs.OwnEdits.{user_slot_at, with_all_back, with_cur}
+pub use Rattle.nm_types.specs.OwnEdits.{has_room, user_slot_at, with_all_back, with_cur}
 pub use Rattle.nm_types.specs.OwnEdits.{with_extra_link, with_forwarded, with_frame, with_head}
 pub use Rattle.nm_types.specs.OwnEdits.{with_head_of_chain, with_positions, with_slot_field}
 pub use Rattle.nm_types.specs.OwnEdits.{with_slots_swapped, with_user_slot, with_written}

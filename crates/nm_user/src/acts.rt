@@ -1,7 +1,7 @@
 //! What a user does on its rings between its calls, as the lines of a script do it.
 ghost use Rattle.std.specs.Prelude.{◌≡◌, ◌≤◌, length};
 ghost use Rattle.nm_types.specs.Limits.{most_frame_bytes};
-ghost use Rattle.nm_user.specs.Words.{has_room_for, is_whole_at, place_seen, with_all_back};
+ghost use Rattle.nm_user.specs.Words.{has_room, place_seen, with_all_back};
 ghost use Rattle.nm_user.specs.Words.{with_extra_link};
 ghost use Rattle.nm_user.specs.Words.{with_forwarded, with_frame, with_positions, with_slot_field};
 ghost use Rattle.nm_user.specs.Words.{with_slots_swapped};
@@ -61,7 +61,7 @@ impl<'f> Session<'f> {
     /// (`nm_types::slots`).
     pub fn has_room(&self, port: PortId, len: usize) -> bool
         requires { len ≤ most_frame_bytes }
-        ensures { result ≡ has_room_for self.now.own port.0 len }
+        ensures { result ≡ has_room self.now.own port.0 len }
     {
         match &self.own {
             Some(own) => own.has_room(port, len),
@@ -92,7 +92,7 @@ impl<'f> Session<'f> {
     pub fn forward(&mut self, from: PortId, to: PortId, count: u32)
         ensures { self.new
             ≡ record self.old {
-              own = with_forwarded (is_whole_at self.old.own to.0) count from.0 to.0 self.old.own;
+              own = with_forwarded count from.0 to.0 self.old.own;
             } }
     {
         if let Some(own) = &mut self.own {

@@ -120,8 +120,8 @@ fn frame_count(gots: &[Got]) -> u32
     last_count(gots) as u32
 }
 
-/// How many bytes of a received buffer are its frame's.
-fn frame_len(got: &Got) -> u16
+/// How many bytes of a received buffer are a part of a frame.
+fn part_len(got: &Got) -> u16
     ensures few { result ≤ 2048 }
     ensures bytes { take result got.now.buf.bytes ≡ part_in got.now }
 {
@@ -138,7 +138,7 @@ fn publish(own: &mut OwnSide, at: usize, port: PortId, got: Got)
     ensures region { (region : ℕ) → AllOf region own.old → IsBufferOf region got.buf
         → AllOf region own.new }
 {
-    let (len, rest) = (frame_len(&got), got.rest);
+    let (len, rest) = (part_len(&got), got.rest);
     own.receive_at(at, port, got.into_buf(), len, rest);
 }
 

@@ -1,10 +1,8 @@
 //! The frames that a receive sync brought, read from the ring and joined of their parts.
-ghost use Rattle.std.specs.Prelude.{◌≡◌, ◌<◌, ◌^◌, length, take, true, IfOk, IfSome, OnOk};
-ghost use Rattle.std.specs.Prelude.{ℕ, List, option_and_then};
-ghost use Rattle.nm_user.specs.Words.{Rx, goes_on, option_copied, ring_at, with_gathered};
-ghost use Rattle.nm_user.specs.Saving.{before_tail, slot_before_tail, frame_of_slot};
-ghost use Rattle.nm_user.specs.Saving.{frame_before_tail, frames_from, count_to_tail};
-ghost use Rattle.nm_user.specs.Saving.{readable_bytes, slot_or_blank_at};
+ghost use Rattle.std.specs.Prelude.{◌≡◌, ◌<◌, length, take, true, IfOk, OnOk};
+ghost use Rattle.std.specs.Prelude.{ℕ, List};
+ghost use Rattle.nm_user.specs.Words.{goes_on, with_gathered};
+ghost use Rattle.nm_user.specs.Saving.{count_to_tail, frames_from, readable_bytes, slot_or_blank_at};
 
 use crate::session::Session;
 use nm_port::gather::is_not_learned;
@@ -20,14 +18,6 @@ const BLANK: Slot = Slot {
     ptr: 0,
 };
 
-/// The position so many steps before a ring's tail, going round.
-fn before_tail(ring: &Ring, back: u32) -> u32
-    ensures { result ≡ before_tail back ring.now }
-{
-    let (size, tail) = (ring.size(), ring.tail());
-    (tail + (size - back.min(size))) % size
-}
-
 /// How many slots there are from a position on to before a ring's tail, going round; 0 if it is no
 /// position of the ring.
 fn count_to_tail(ring: &Ring, at: u32) -> u32
@@ -42,9 +32,8 @@ fn count_to_tail(ring: &Ring, at: u32) -> u32
 }
 
 /// The first of these bytes, as many as a slot's length says.
-fn frame_in<'a>(bytes: &'a [u8], slot: &Slot) -> &'a [u8]
-    ensures bytes { result.now ≡ take slot.now.len bytes.now }
-    ensures size { length result.now < 2 ^ 16 }
+fn part_in<'a>(bytes: &'a [u8], slot: &Slot) -> &'a [u8]
+    ensures { result.now ≡ take slot.now.len bytes.now }
 {
     &bytes[..bytes.len().min(slot.len as usize)]
 }
@@ -66,41 +55,6 @@ fn add_bytes(bytes: &[u8], slot: &Slot, begun: bool, frames: &mut Batch) -> Resu
 }
 
 impl<'f> Session<'f> {
-    /// The slot so many steps before the tail of a port's receive ring, if it is the user's.
-    fn slot_before_tail(&self, port: PortId, back: u32) -> Option<&Slot>
-        ensures { option_copied result
-            ≡ option_and_then (slot_before_tail back) (ring_at Rx self.now.own port.0) }
-    {
-        match self.ring(port, Side::Rx) {
-            Some(ring) => self.slot(port, Side::Rx, before_tail(ring, back)),
-            None => None,
-        }
-    }
-
-    /// The part of a frame in a slot, if the user may name the buffer that the slot names.
-    fn frame_of_slot(&self, slot: &Slot) -> Option<&[u8]>
-        ensures frame { option_copied result ≡ frame_of_slot self.now.own slot.now }
-        ensures size { IfSome result (λ bytes. length bytes.now < 2 ^ 16) }
-    {
-        match self.bytes(slot.buf_idx) {
-            Some(bytes) => Some(frame_in(bytes, slot)),
-            None => None,
-        }
-    }
-
-    /// The part of a frame in the slot so many steps before the tail of a port's receive ring: 1 is the
-    /// last that came. None if that slot is not the user's, or names a buffer that the user may
-    /// not name. A part has no more bytes than a slot's length can say.
-    pub fn frame_before_tail(&self, port: PortId, back: u32) -> Option<&[u8]>
-        ensures frame { option_copied result ≡ frame_before_tail self.now.own port.0 back }
-        ensures size { IfSome result (λ bytes. length bytes.now < 2 ^ 16) }
-    {
-        match self.slot_before_tail(port, back) {
-            Some(slot) => self.frame_of_slot(slot),
-            None => None,
-        }
-    }
-
     /// The user's slot at a position of a port's receive ring, a blank one if there is none.
     fn slot_or_blank(&self, port: PortId, at: u32) -> Slot
         ensures { result ≡ slot_or_blank_at self.now.own port.0 at }
@@ -117,7 +71,7 @@ impl<'f> Session<'f> {
         ensures { result.now ≡ take slot.now.len (readable_bytes self.now.own slot.now.buf_idx) }
     {
         match self.bytes(slot.buf_idx) {
-            Some(bytes) => frame_in(bytes, slot),
+            Some(bytes) => part_in(bytes, slot),
             None => &[],
         }
     }

@@ -1,5 +1,5 @@
 ghost use Rattle.std.specs.Prelude.{◌≡◌, ◌≤◌, All, length};
-ghost use Rattle.vale_batch.specs.Looking.{IsFrame};
+ghost use Rattle.nm_types.specs.Sendable.{IsFrame};
 
 use nm_types::{Batch, MAX_FRAME_BYTES, PortId};
 use std::alloc::Global;

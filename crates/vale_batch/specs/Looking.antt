@@ -1,7 +1,6 @@
 -- Where the frames of a batch go. Each frame is learned first and then looked up; the frames after it
 -- see what it taught.
-use Rattle.std.specs.Prelude.{ℕ, false, ◌≡◌, ◌==◌, ◌≤◌, if◌then◌else◌, List, [], ◌∷◌, length, fold, reverse, Option, Some, None}
-use Rattle.nm_types.specs.Limits.{most_frame_bytes}
+use Rattle.std.specs.Prelude.{ℕ, false, ◌≡◌, ◌==◌, if◌then◌else◌, List, [], ◌∷◌, length, fold, reverse, Option, Some, None}
 use Rattle.nm_types.specs.Frames.{Frame}
 use Rattle.nm_types.specs.declared.id.Mac.{Mac}
 use Rattle.nm_types.specs.declared.id.PortId.{PortId}
@@ -58,10 +57,6 @@ untaught entries taught = restored entries taught.address taught.before
 
 abbrev pub untaught_all : Entries → List Taught → Entries
 untaught_all entries taughts = fold untaught entries (reverse taughts)
-
--- a frame is no longer than frames are
-abbrev pub IsFrame : Frame → Type 0
-IsFrame frame = length frame.bytes ≤ most_frame_bytes
 
 -- what contracts see of a batch that was looked up: who sent it, where its frames go, and what they taught
 pub record LookedUp : Type 0 where

@@ -1,8 +1,9 @@
 ghost use Rattle.std.specs.Prelude.{◌≡◌, ◌<◌, ◌≤◌, ◌^◌, All, length, map, count_by, IfOk, OnOk, OnErr};
 ghost use Rattle.std.specs.List.{list_any};
 ghost use Rattle.nm_types.specs.Limits.{most_batch};
+ghost use Rattle.nm_types.specs.Sendable.{IsFrame};
 ghost use Rattle.vale_batch.specs.Addresses.{is_short};
-ghost use Rattle.vale_batch.specs.Looking.{IsFrame, looked_up_batch, learned_of_batch, untaught_all};
+ghost use Rattle.vale_batch.specs.Looking.{looked_up_batch, learned_of_batch, untaught_all};
 ghost use Rattle.vale_batch.specs.Wants.{wants_of, is_other, is_lone, is_short_destination, is_lone_if, port_number, IsRising};
 
 use crate::alone::{flooded_of, owns_of};

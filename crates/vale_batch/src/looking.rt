@@ -1,7 +1,8 @@
 ghost use Rattle.std.specs.Prelude.{◌≡◌, ◌≤◌, [], ◌++◌, All, IsTrue, IfOk, OnOk, length, vec_capacity};
 ghost use Rattle.vale_learn.specs.AddressTable.{learned, port_of_address};
 ghost use Rattle.vale_batch.specs.Addresses.{is_learnable, source_address};
-ghost use Rattle.vale_batch.specs.Looking.{destination_found, destination_of, learned_from, looked_up, looked_up_batch, learned_of_batch, untaught_all, IsAlike, IsFrame};
+ghost use Rattle.vale_batch.specs.Looking.{destination_found, destination_of, learned_from, looked_up, looked_up_batch, learned_of_batch, untaught_all, IsAlike};
+ghost use Rattle.nm_types.specs.Sendable.{IsFrame};
 
 use crate::addresses::{HEADER_BYTES, is_group, mac_at, word_at};
 use nm_frag::slots;

@@ -1,8 +1,9 @@
 //! A batch whose frames were looked up, before any port is listed.
 ghost use Rattle.std.specs.Prelude.{List, ◌≡◌, ◌<◌, ◌≤◌, ◌^◌, All, length, map, true, count_by, IfOk, IfSome, IfNone, OnOk, OnErr};
 ghost use Rattle.std.specs.List.{list_any};
-ghost use Rattle.vale_batch.specs.Looking.{IsFrame, looked_up_batch, learned_of_batch, untaught_all};
+ghost use Rattle.vale_batch.specs.Looking.{looked_up_batch, learned_of_batch, untaught_all};
 ghost use Rattle.nm_types.specs.declared.id.PortId.{PortId};
+ghost use Rattle.nm_types.specs.Sendable.{IsFrame};
 ghost use Rattle.vale_batch.specs.Wants.{goes_alone, is_lone, is_port, is_short_destination, port_number, wanted, wants_of, IsRising};
 
 use crate::classifying::lists_of;

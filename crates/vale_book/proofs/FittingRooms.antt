@@ -1,8 +1,8 @@
 -- A record each of whose entries had room is within its limits, as it was before each entry.
-use Rattle.std.proofs.Common.{ℕ, zero, suc, List, [], ◌∷◌, ◌++◌, take, drop, sym, subst, take-append-drop}
+use Rattle.std.proofs.Common.{ℕ, zero, suc, List, [], ◌∷◌, ◌++◌, take}
 use Rattle.vale_entry.specs.declared.entry.Entry.{Entry}
-use Rattle.vale_entry.specs.Legal.{IsLegal}
-use Rattle.vale_own.proofs.OwnKept.{legal-split}
+use Rattle.vale_entry.specs.Legal.{fresh_standing}
+use Rattle.vale_entry.proofs.Worlds.{legal-take}
 use Rattle.vale_own.specs.Recorded.{Recorded, HadRoomFrom}
 use Rattle.vale_own.proofs.Rooms.{within-had}
 use Rattle.vale_book.specs.Fitting.{HadRoomIsWithin, PrefixHadRoom, PrefixIsWithin}
@@ -21,14 +21,7 @@ had-take_from b (suc count) (entry ∷ entries) had =
 pub had-take : PrefixHadRoom
 had-take b count had = had-take_from (record b { entries = [] }) count b.entries had
 
-legal-take :
-    (pool : ℕ) (h : List Entry) (count : ℕ) → IsLegal pool h → IsLegal pool (take count h)
-legal-take pool h count legal =
-    let whole : IsLegal pool (take count h ++ drop count h) =
-    subst (IsLegal pool) (sym (take-append-drop count h)) legal in
-    (legal-split pool (take count h) (drop count h) whole).0
-
 pub take-within : PrefixIsWithin
 take-within b count legal had =
     within-had (record b { entries = take count b.entries })
-    (legal-take b.pool b.entries count legal) (had-take b count had)
+    (legal-take (fresh_standing b.pool) b.entries count legal) (had-take b count had)

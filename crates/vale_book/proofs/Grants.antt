@@ -30,7 +30,7 @@ use Rattle.vale_entry.specs.Legal.{Standing, Follows, reply_of, session_and_repl
 use Rattle.vale_entry.specs.Offers.{is_offer_of}
 use Rattle.vale_entry.specs.Stored.{Stored}
 use Rattle.vale_entry.specs.Laws.{HasLotsUpTo, IsFrom}
-use Rattle.vale_entry.proofs.Each.{each-find, changed_at-same, each-drop, each-append}
+use Rattle.vale_entry.proofs.Each.{each-find, changed_at-same, each-drop, each-append, each-take}
 use Rattle.vale_entry.proofs.HistoryLaws.{numbers-rise}
 use Rattle.vale_entry.proofs.ListLaws.{place-of, each-at, each-set}
 use Rattle.vale_entry.proofs.Worlds.{count-world_of, standing-push}
@@ -56,7 +56,6 @@ use Rattle.vale_own.specs.Recorded.{Recorded, standing, entry_of}
 use Rattle.vale_steps.specs.Granting.{given_by, grant_entry, lease_id}
 use Rattle.vale_steps.specs.Offering.{OffersState, OffersStand, IsOfferBy, IsLeaseOf}
 use Rattle.vale_book.proofs.Moves.{Moves, before, owed-room, entries-few}
-use Rattle.vale_steps.proofs.Lists.{each-take}
 use Rattle.vale_book.proofs.Standing.{IsHere, ports-rising}
 
 -- ---- the offer that is next

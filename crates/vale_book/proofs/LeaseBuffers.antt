@@ -14,6 +14,7 @@ use Rattle.vale_line.proofs.CutLemmas.{tells-frame, cut-append, cut-with}
 use Rattle.vale_line.proofs.FittingLemmas.{sum-cons}
 use Rattle.vale_book.specs.Leases.{KeepsBuffers}
 use Rattle.vale_book.specs.Reading.{Begins}
+use Rattle.vale_entry.proofs.Shares.{no_items}
 
 -- ---- a lease
 
@@ -76,14 +77,10 @@ are-named region (x ∷ xs) (y ∷ ys) e are =
     let rest : names_of xs ≡ names_of ys = cc in
     (ap (λ (name : ℕ × ℕ). name.0) one ∙ are.0, are-named region xs ys rest are.1)
 
-no-length : {X : Type 0} (xs : List X) → length xs ≡ 0 → xs ≡ []
-no-length [] e = refl
-no-length (x ∷ xs) e = absurd (omega (arith, e))
-
 -- a lease in which all frames are filled has its buffers, and no others
 module _ {start lease : Leased} (keeps : KeepsBuffers start lease) (full : lease.sizes ≡ []) where
   pub keeps-none : lease.empty ≡ []
-  keeps-none = no-length lease.empty (keeps.left ∙ ap sum full)
+  keeps-none = no_items lease.empty (keeps.left ∙ ap sum full)
 
   keeps-names : names_of (buffers_of lease.filled) ≡ names_of start.empty
   keeps-names =

@@ -20,7 +20,7 @@ use Rattle.vale_entry.specs.World.{World, free_count}
 use Rattle.vale_entry.specs.Opening.{are_sizes, names_of as port_names, open_refusal, opened_port, refusal_or_room}
 use Rattle.vale_entry.specs.Legal.{Standing, open_step, open_step_by, step, can_open}
 use Rattle.vale_entry.specs.Stored.{Fits}
-use Rattle.vale_entry.proofs.Each.{each-append, each-drop}
+use Rattle.vale_entry.proofs.Each.{each-append, each-drop, each-take}
 use Rattle.vale_entry.proofs.Worlds.{count-world_of}
 use Rattle.vale_entry.proofs.Roomy.{opened-room}
 use Rattle.vale_port.specs.declared.port.Opening.{Opening}
@@ -44,7 +44,6 @@ use Rattle.vale_book.specs.BookView.{HasBuffersOf, IsBook}
 use Rattle.vale_steps.specs.OpenParts.{HasTableFor, name_of_state, name_of_port, StillTables, StillFew, ComesOut, refusal_for, entry_for, state_for}
 use Rattle.vale_book.proofs.Moves.{Moves, before, fits-step}
 use Rattle.vale_book.proofs.RingSizes.{none-first}
-use Rattle.vale_steps.proofs.Lists.{each-take}
 use Rattle.vale_book.proofs.Standing.{ports-rising}
 
 -- an opening, as the entry that comes after so many makes it

@@ -9,13 +9,12 @@ use Rattle.nm_region.specs.Buffers.{Buffer}
 use Rattle.vale_line.specs.declared.got.Got.{Got}
 use Rattle.vale_line.specs.Gots.{buffers_of, buffer_of}
 use Rattle.vale_line.specs.Lines.{HeldLot, is_done, gots_of, held_gots, ready_gots, behind_done, given_by_sync, put_lot}
-use Rattle.vale_entry.proofs.Each.{each-append, each-drop}
+use Rattle.vale_entry.proofs.Each.{each-append, each-drop, each-take}
 use Rattle.vale_entry.proofs.ListLaws.{each-at}
 use Rattle.vale_port.specs.Laws.{with_line, line_after_put}
 use Rattle.vale_port.specs.Ports.{PortState}
 use Rattle.nm_region.specs.Regions.{AreOf}
 use Rattle.vale_book.specs.BookView.{HasBuffersOf}
-use Rattle.vale_steps.proofs.Lists.{each-take}
 
 -- the buffers of each lot
 abbrev pub IsLotOf : ℕ → HeldLot → Type 0

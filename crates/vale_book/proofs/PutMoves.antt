@@ -42,6 +42,7 @@ use Rattle.vale_entry.proofs.HistoryLaws.{numbers-rise}
 use Rattle.vale_entry.proofs.ListLaws.{each-at, each-set}
 use Rattle.vale_entry.proofs.HistoryPlaces.{helds-rise}
 use Rattle.vale_entry.proofs.Places.{peer-place, open_port-world, first_idle-place}
+use Rattle.vale_entry.proofs.Each.{each-take}
 use Rattle.vale_port.specs.Kept.{bytes_of}
 use Rattle.vale_port.specs.Laws.{with_line, line_after_put}
 use Rattle.vale_port.specs.Lists.{IsFoundAt, IsNotFound, ChangesSeat, OfSeat, OfState}
@@ -86,7 +87,6 @@ use Rattle.vale_steps.proofs.PutLists.{items-first, indices-items, frames-items}
 use Rattle.vale_book.proofs.PutsTold.{fit-taken}
 use Rattle.vale_book.proofs.ReadMoves.{IsRest}
 use Rattle.vale_own.proofs.Rooms.{step-recorded}
-use Rattle.vale_steps.proofs.Lists.{each-take}
 use Rattle.vale_book.proofs.Standing.{IsHere, found-here, not-found, ports-rising}
 
 -- ---- the port that puts, at its place

@@ -6,7 +6,7 @@ use Rattle.std.proofs.lemmas.Bool.{and_parts}
 use Rattle.std.proofs.lemmas.List.{length-append, set-get_or}
 use Rattle.nm_types.specs.Frames.{Frame, bytes_of_frames}
 use Rattle.nm_types.specs.Names.{switch_of, is_switch_port_name}
-use Rattle.nm_types.specs.Sendable.{is_sendable}
+use Rattle.nm_types.specs.Sendable.{IsFrame, is_sendable}
 use Rattle.nm_types.specs.declared.fault.StepFault.{StepFault}
 use Rattle.nm_types.specs.declared.id.PortId.{PortId}
 use Rattle.nm_types.specs.declared.id.SessionId.{SessionId}
@@ -15,7 +15,7 @@ use Rattle.nm_count.specs.Tallies.{counts_of, tally_after_add}
 use Rattle.nm_pool.specs.Free.{PoolState}
 use Rattle.nm_watch.specs.Watching.{monitor_of}
 use Rattle.vale_learn.specs.AddressTable.{Entries}
-use Rattle.vale_batch.specs.Looking.{IsFrame, learned_of_batch}
+use Rattle.vale_batch.specs.Looking.{learned_of_batch}
 use Rattle.vale_batch.specs.Wants.{Wanted, IsRising, port_number}
 use Rattle.vale_entry.specs.declared.entry.Ask.TheVariants.{Send}
 use Rattle.vale_entry.specs.declared.entry.Reply.{Reply}

@@ -1,5 +1,5 @@
 -- What a book's ports say of the world, and whose buffers they have.
-use Rattle.std.proofs.Common.{ℕ, zero, suc, Bool, true, ◌≡◌, ◌<◌, List, [], ◌∷◌, ◌++◌, length, slice_get, map, Option, Some, None, option_map, arith, refl, sym, ◌∙◌, ap, subst}
+use Rattle.std.proofs.Common.{ℕ, zero, suc, Bool, true, ◌≡◌, ◌<◌, List, [], ◌∷◌, length, slice_get, map, Option, Some, None, option_map, arith, refl, sym, ◌∙◌, ap, subst}
 use Rattle.std.proofs.lemmas.Option.{slice_get-map}
 use Rattle.vale_entry.specs.declared.entry.Entry.{Entry}
 use Rattle.vale_entry.specs.World.{Port}
@@ -10,7 +10,7 @@ use Rattle.vale_port.specs.Lists.{IsFoundAt, IsNotFound, AreRising, StandsAt}
 use Rattle.vale_port.specs.Ports.{AreByRisingIds}
 use Rattle.vale_port.proofs.ByRisingIds.{by-rising-ids}
 use Rattle.vale_port.proofs.Lists.{are-length, seats-ports, each_port_stands, found_is_found, not_found_is_none}
-pub use Rattle.vale_steps.proofs.Lists.{each-take}
+pub use Rattle.vale_entry.proofs.Each.{each-take}
 use Rattle.vale_book.specs.declared.book.Book.TheInside.{Inside}
 use Rattle.vale_book.specs.BookView.{StandsFor}
 

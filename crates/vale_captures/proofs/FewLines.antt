@@ -98,7 +98,7 @@ program-units : (d : Draft) (block : Option Opened) (program : Program) (all : L
 program-units d None program all e = cc
 program-units d (Some block) program all e = absurd cc
 
-ended-units : (d : Draft) (program : Program) (r : Result Program ℕ) → finished d ≡ r → ended r ≡ Ok program → d.units ≡ program.units
+pub ended-units : (d : Draft) (program : Program) (r : Result Program ℕ) → finished d ≡ r → ended r ≡ Ok program → d.units ≡ program.units
 ended-units d program (Err at) is e = absurd cc
 ended-units d program (Ok p) is e =
     let same : p ≡ program = cc in

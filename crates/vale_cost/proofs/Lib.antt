@@ -14,4 +14,5 @@ pub mod RoomUsers
 pub mod RoomScripts
 pub mod RoomUnits
 pub mod RoomCosts
+pub mod HexUnits
 pub mod RoomLines

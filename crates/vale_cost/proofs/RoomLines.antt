@@ -11,11 +11,11 @@ use Rattle.vale_script.specs.declared.script.Line.{Line}
 use Rattle.vale_script.specs.declared.script.Unit.{Unit as ReadUnit}
 use Rattle.vale_script.specs.declared.script.Unit.TheVariants as parts
 use Rattle.vale_script.specs.Script.{Program}
-use Rattle.vale_script.specs.Sound.{IsSoundAct, IsSoundLine, IsSoundUnit}
 use Rattle.vale_captures.specs.Counting.{count_of, frames_by}
 use Rattle.vale_captures.specs.Inputs.{InputFile, name_of, frames_of, records_in}
+use Rattle.vale_script.proofs.HexLines.{HexFits}
 use Rattle.vale_captures.proofs.FewLines.{few-acts}
-use Rattle.nm_types.specs.Limits.{most_switch_ports}
+use Rattle.nm_types.specs.Limits.{buffer_bytes, most_bytes, most_entries, most_script_lines, most_switch_ports}
 use Rattle.nm_types.specs.declared.limits.Limits.{Limits}
 use Rattle.nm_types.specs.OwnPorts.{OwnPort}
 use Rattle.nm_types.proofs.Lists.{each-joined, each-front, each-back}
@@ -24,7 +24,8 @@ use Rattle.vale_replay.specs.Machine.{new_machine, closing_of, closing_tasks}
 use Rattle.vale_replay.specs.Replay.{UnitShare, ScriptUnit, share_of, shares_of, act_of, acts_of, has_line, is_of_user, closing_unit, units_of, user_count}
 use Rattle.vale_replay.specs.Saved.{acts_of_unit}
 use Rattle.vale_cost.specs.Completeness.{Cost, Sends, Bytes, Calls, Opens, cost_of_task, cost_of_units, frames_put, bytes_put, opens_by, IsPlainAct, IsPlainTask, IsCosted, LineCosts, TasksFit}
-use Rattle.vale_cost.specs.FewFrames.{bytes_by, frames_put_in, bytes_put_in, opens_of, most_light_frames, most_narrow_frames, most_narrow_ports, LightScriptsFit}
+use Rattle.vale_cost.specs.FewFrames.{bytes_by, frames_put_in, bytes_put_in, opens_of, most_light_frames, most_narrow_frames, most_narrow_ports, most_light_bytes, LightScriptsFit}
+use Rattle.vale_cost.proofs.HexUnits.{hex-fits}
 use Rattle.vale_cost.proofs.RoomHistories.{times-less}
 use Rattle.vale_captures.proofs.Names.{records-same}
 use Rattle.vale_cost.proofs.RoomRests.{cost_in, ArePlain}
@@ -273,14 +274,9 @@ closing-costed user = (
 abbrev counted : List InputFile → Act → ℕ
 counted played act = count_of act + frames_by played act
 
--- the frame of a `hex` line fits a buffer
-abbrev pub HexIsShort : Act → Type 0
-HexIsShort (acts.Hex name frame) = length frame.bytes ≤ 2048
-HexIsShort _ = Unit {0}
-
 record IsFew (records : List ℕ → List (List ℕ)) (played : List InputFile) (act : Act) : Type 0 where
   sends : cost_in Sends (tasks_of_line records act) ≤ counted played act + 1
-  bytes : cost_in Bytes (tasks_of_line records act) ≤ bytes_by played act + 2048 * (counted played act + 2)
+  bytes : cost_in Bytes (tasks_of_line records act) ≤ bytes_by played act + buffer_bytes * (counted played act + 2)
   calls : cost_in Calls (tasks_of_line records act) ≤ 6 * counted played act + 3
 
 line-few : (records : List ℕ → List (List ℕ)) (played : List InputFile) (act : Act) → frames_put records act ≤ counted played act → bytes_put records act ≡ bytes_by played act → IsFew records played act
@@ -288,7 +284,7 @@ line-few records played act put short =
     let line : LineCosts records act = lines-cost records act in
     record { sends = omega (arith, line.sends, put); bytes = omega (arith, line.bytes, put, short); calls = omega (arith, line.calls, put) }
 
-acts-few : (records : List ℕ → List (List ℕ)) (played : List InputFile) → ((file : List ℕ) → records file ≡ records_in played file) → (act : Act) → HexIsShort act → IsFew records played act
+acts-few : (records : List ℕ → List (List ℕ)) (played : List InputFile) → ((file : List ℕ) → records file ≡ records_in played file) → (act : Act) → HexFits act → IsFew records played act
 acts-few records played same acts.Enter short = line-few records played acts.Enter (omega arith) refl
 acts-few records played same (acts.Open name tx rx extra) short = line-few records played (acts.Open name tx rx extra) (omega arith) refl
 acts-few records played same (acts.Put name count to from len fill) short = line-few records played (acts.Put name count to from len fill) (omega arith) refl
@@ -312,10 +308,10 @@ acts-few records played same (acts.Close name) short = line-few records played (
 
 record AreFew (records : List ℕ → List (List ℕ)) (played : List InputFile) (some : List Act) (frames : ℕ) : Type 0 where
   sends : sum_by (of_act (cost_of_task Sends) records) some ≤ frames + length some
-  bytes : sum_by (of_act (cost_of_task Bytes) records) some ≤ sum_by (bytes_by played) some + 2048 * (frames + 2 * length some)
+  bytes : sum_by (of_act (cost_of_task Bytes) records) some ≤ sum_by (bytes_by played) some + buffer_bytes * (frames + 2 * length some)
   calls : sum_by (of_act (cost_of_task Calls) records) some ≤ 6 * frames + 3 * length some
 
-all-few : (records : List ℕ → List (List ℕ)) (played : List InputFile) → ((file : List ℕ) → records file ≡ records_in played file) → (some : List Act) → Each HexIsShort some
+all-few : (records : List ℕ → List (List ℕ)) (played : List InputFile) → ((file : List ℕ) → records file ≡ records_in played file) → (some : List Act) → Each HexFits some
     → AreFew records played some (sum_by count_of some + sum_by (frames_by played) some)
 all-few records played same [] short = record { sends = omega arith; bytes = omega arith; calls = omega arith }
 all-few records played same (act ∷ some) short =
@@ -353,9 +349,9 @@ found-same program played names file =
 -- The tasks of a script are few for limits that have room for its frames, with so many ports on each switch:
 -- each frame, and each line, costs a Send at most.
 pub tasks-fit : (program : Program) (played : List InputFile) (limits : Limits) (most frames lines bytes : ℕ) → map name_of played ≡ program.files
-    → Each IsPlainAct (flat_map acts_of_unit program.units) → Each HexIsShort (flat_map acts_of_unit program.units) → (most_switch_ports ≤ most) ⊎ ((switch : List ℕ) → opens_of switch program ≤ most)
+    → Each IsPlainAct (flat_map acts_of_unit program.units) → Each HexFits (flat_map acts_of_unit program.units) → (most_switch_ports ≤ most) ⊎ ((switch : List ℕ) → opens_of switch program ≤ most)
     → frames_put_in program played ≤ frames → length (flat_map acts_of_unit program.units) ≤ lines → bytes_put_in program played ≤ bytes
-    → 2 * most * (frames + lines) + (6 * frames + 3 * lines) ≤ limits.entries → bytes + 2048 * (frames + 2 * lines) ≤ limits.bytes
+    → 2 * most * (frames + lines) + (6 * frames + 3 * lines) ≤ limits.entries → bytes + buffer_bytes * (frames + 2 * lines) ≤ limits.bytes
     → TasksFit program (map frames_of played) limits
 tasks-fit program played limits most frames lines bytes names plain short few few-frames few-lines few-bytes entries-fit bytes-fit = record {
   most = most;
@@ -394,44 +390,26 @@ tasks-fit program played limits most frames lines bytes names plain short few fe
         let less = opens switch in
         omega (arith, sum, lines_open, less)))
 
--- the `hex` lines of a sound script
-
-act-short : (act : Act) → IsSoundAct act → HexIsShort act
-act-short (acts.Hex name frame) sound = sound.1.fits
-act-short _ sound = tt
-
-lines-short : (users : ℕ) (ls : List Line) → Each (IsSoundLine users) ls → Each HexIsShort (map act_of ls)
-lines-short users [] sound = tt
-lines-short users (line ∷ ls) sound = (act-short line.act sound.0.act, lines-short users ls sound.1)
-
-unit-short : (users : ℕ) (unit : ReadUnit) → IsSoundUnit users unit → Each HexIsShort (acts_of_unit unit)
-unit-short users (parts.Single line) sound = (act-short line.act sound.act, tt)
-unit-short users (parts.Block ls) sound = lines-short users ls sound
-
-units-short : (users : ℕ) (units : List ReadUnit) → Each (IsSoundUnit users) units → Each HexIsShort (flat_map acts_of_unit units)
-units-short users [] sound = tt
-units-short users (unit ∷ units) sound = each-joined HexIsShort (acts_of_unit unit) (flat_map acts_of_unit units) (unit-short users unit sound.0) (units-short users units sound.1)
-
 pub light-fit : LightScriptsFit
-light-fit script program played limits says sound short names light entries bytes = by light.few
+light-fit script program played limits says short names light entries bytes = by light.few
   where
-    most-entries : 16777216 ≤ limits.entries
+    most-entries : most_entries ≤ limits.entries
     most-entries = entries
 
-    most-bytes : 1073741824 ≤ limits.bytes
+    most-bytes : most_bytes ≤ limits.bytes
     most-bytes = bytes
 
-    few-lines : length (flat_map acts_of_unit program.units) ≤ 10000
+    few-lines : length (flat_map acts_of_unit program.units) ≤ most_script_lines
     few-lines =
         let lines-few : length (flat_map acts_of_unit program.units) ≤ length (lines script) = few-acts script program says in
-        let few : length (lines script) ≤ 10000 = short in
+        let few : length (lines script) ≤ most_script_lines = short in
         omega (arith, lines-few, few)
 
     by : (frames_put_in program played ≤ most_light_frames) ⊎ ((frames_put_in program played ≤ most_narrow_frames) × ((switch : List ℕ) → opens_of switch program ≤ most_narrow_ports))
         → TasksFit program (map frames_of played) limits
     by (inl few) =
-        tasks-fit program played limits most_switch_ports most_light_frames 10000 409600000 names light.plain (units-short (length program.users) program.units sound.units_are) (inl (omega arith)) few few-lines light.short
+        tasks-fit program played limits most_switch_ports most_light_frames most_script_lines most_light_bytes names light.plain (hex-fits script program says) (inl (omega arith)) few few-lines light.short
         (omega (arith, most-entries)) (omega (arith, most-bytes))
     by (inr both) =
-        tasks-fit program played limits most_narrow_ports most_narrow_frames 10000 409600000 names light.plain (units-short (length program.users) program.units sound.units_are) (inr both.1) both.0 few-lines light.short
+        tasks-fit program played limits most_narrow_ports most_narrow_frames most_script_lines most_light_bytes names light.plain (hex-fits script program says) (inr both.1) both.0 few-lines light.short
         (omega (arith, most-entries)) (omega (arith, most-bytes))

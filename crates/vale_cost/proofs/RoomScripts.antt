@@ -9,7 +9,8 @@ use Rattle.vale_entry.specs.OwnCalls.{own_after}
 use Rattle.nm_types.specs.Limits.{most_switch_ports}
 use Rattle.nm_types.specs.declared.limits.Limits.{Limits}
 use Rattle.vale_entry.specs.Opening.{is_on_switch}
-use Rattle.vale_entry.specs.Legal.{Outcome, IsLegal, standing_of, world_of, step, kept_ask}
+use Rattle.vale_entry.specs.Legal.{Outcome, IsLegal, standing_of, world_of, step, kept_ask, fresh_standing}
+use Rattle.vale_entry.proofs.Worlds.{legal-take}
 use Rattle.vale_own.specs.Recorded.{HasRoom, room_by}
 use Rattle.vale_script.specs.Script.{Program}
 use Rattle.vale_replay.specs.Machine.{Machine, new_machine, is_settling}
@@ -22,7 +23,7 @@ use Rattle.vale_cost.proofs.RoomSpends.{made-spends}
 use Rattle.vale_cost.proofs.RoomChains.{made-below}
 use Rattle.vale_cost.proofs.RoomHistories.{fit-room, times-less, were-opened}
 use Rattle.vale_cost.proofs.RoomSwitches.{switches-few}
-use Rattle.vale_cost.proofs.RoomUsers.{legal-take, plain-answered}
+use Rattle.vale_cost.proofs.RoomUsers.{plain-answered}
 use Rattle.vale_cost.proofs.RoomUnits.{IsUp, each-get, range_to, ranges-join, unit-sum, units-sum}
 
 -- ---- sums over a list, and what is in it
@@ -93,7 +94,7 @@ all-spent : (program : Program) (captures : Captures) (h : List Entry) (nows : C
     → AllSpent program captures h nows
 all-spent program captures h nows costed r =
     let units = units_of program captures in
-    let legal = legal-take program.pool h (played-legal program captures h nows (inr r)) in
+    let legal = λ (n : ℕ). legal-take (fresh_standing program.pool) h n (played-legal program captures h nows (inr r)) in
     let before = units-sum program.pool h legal 0 (cast_of program) (take r.count units) r.cast r.first (up-first program.pool 1 (user_count program)) (take-apart r.count units (units-apart program captures))
     (take-each (Each IsCosted) r.count units costed) r.units in
     let here = unit-sum program.pool h legal r.first (length h) r.cast r.unit r.lists r.afters r.forward before.sum.up (apart-at r.count units r.unit (units-apart program captures) r.there)
@@ -129,7 +130,7 @@ had-few program captures limits h nows fit legal spent number switch = by fit.fe
         → count_by (is_on_switch switch) (world_of program.pool (take number h)).ports ≤ fit.most
     by (inl most) = let few = switches-few program.pool (take number h) switch in omega (arith, few, most)
     by (inr opens) =
-        let opened = were-opened program.pool (take number h) switch (legal-take program.pool h legal number) in
+        let opened = were-opened program.pool (take number h) switch (legal-take (fresh_standing program.pool) h number legal) in
         let part = cost-take (Opens switch) number h in
         let all = spent.costs (Opens switch) in
         let few = opens switch in

@@ -1,5 +1,5 @@
 -- The turns of one user, one after another.
-use Rattle.std.proofs.Common.{ℕ, ◌-◌, ◌<◌, ◌≤◌, ◌≡◌, Bool, true, false, cond, List, [], ◌∷◌, map, take, drop, Option, Some, sym, ap, subst, arith, take-append-drop}
+use Rattle.std.proofs.Common.{ℕ, ◌-◌, ◌<◌, ◌≤◌, ◌≡◌, Bool, true, false, cond, List, [], ◌∷◌, map, take, Option, Some, sym, ap, subst, arith}
 use Rattle.std.specs.Option.{option_map_or}
 use Rattle.std.specs.List.{AllByRecursion as Each}
 use Rattle.std.proofs.lemmas.List.Sums.{sum_by-cons}
@@ -8,9 +8,9 @@ use Rattle.vale_entry.specs.declared.entry.Entry.{Entry}
 use Rattle.vale_entry.specs.Arrivals.{arrivals_of}
 use Rattle.vale_entry.specs.Laws.{Rise}
 use Rattle.vale_entry.specs.OwnCalls.{own_after}
-use Rattle.vale_entry.specs.Legal.{Outcome, IsLegal, standing_of, step, kept_ask}
+use Rattle.vale_entry.specs.Legal.{Outcome, IsLegal, standing_of, step, kept_ask, fresh_standing}
 use Rattle.vale_entry.proofs.Rising.{rise-bounds}
-use Rattle.vale_own.proofs.OwnKept.{legal-split}
+use Rattle.vale_entry.proofs.Worlds.{legal-take}
 use Rattle.vale_replay.specs.Machine.{Machine, answered, is_settling, resting, with_tasks}
 use Rattle.vale_replay.specs.Replay.{TakesTurn, TakesTurns, entry_of}
 use Rattle.vale_cost.specs.Completeness.{cost_by, cost_at, IsOpenedBy, SpendsAll, UsersSpend, IsPlainTask}
@@ -68,13 +68,10 @@ chain pool h low high user (n ∷ ns) after legal rise below plain turns =
       below = rest.below;
     }
 
-pub legal-take : (pool : ℕ) (h : List Entry) → IsLegal pool h → (n : ℕ) → IsLegal pool (take n h)
-legal-take pool h legal n = (legal-split pool (take n h) (drop n h) (subst (IsLegal pool) (sym (take-append-drop n h)) legal)).0
-
 opened-ids : (low : ℕ) (ports : List OwnPort) → Each (IsOpenedBy low) ports → Each (λ (v : View). v.id ≤ low) (map seen ports)
 opened-ids low [] all = tt
 opened-ids low (p ∷ ports) all = (all.0, opened-ids low ports all.1)
 
 pub users-spend : UsersSpend
 users-spend pool h low high user ns after legal rise sound opened plain turns =
-    (chain pool h low high user ns after (legal-take pool h legal) rise (record { tidy = tidy-of user.own sound; ids = opened-ids low user.own.ports opened }) plain turns).spends
+    (chain pool h low high user ns after (λ (n : ℕ). legal-take (fresh_standing pool) h n legal) rise (record { tidy = tidy-of user.own sound; ids = opened-ids low user.own.ports opened }) plain turns).spends

@@ -8,7 +8,6 @@ use Rattle.vale_script.specs.declared.script.Act.{Act}
 use Rattle.vale_script.specs.declared.script.Act.TheVariants as acts
 use Rattle.vale_script.specs.Grammar.{script_of}
 use Rattle.vale_script.specs.Script.{Program}
-use Rattle.vale_script.specs.Sound.{IsSound}
 use Rattle.vale_captures.specs.Counting.{counts_of, frames_played}
 use Rattle.vale_captures.specs.Inputs.{InputFile, name_of, frames_of, records_in}
 use Rattle.vale_replay.specs.Saved.{acts_of_unit}
@@ -59,7 +58,7 @@ pub record IsLight (program : Program) (played : List InputFile) : Type 0 where
 abbrev pub LightScriptsFit : Type 0
 LightScriptsFit =
     (script : List ℕ) (program : Program) (played : List InputFile) (limits : Limits)
-    → script_of script ≡ Ok program → IsSound program → length (lines script) ≤ most_script_lines
+    → script_of script ≡ Ok program → length (lines script) ≤ most_script_lines
     → map name_of played ≡ program.files → IsLight program played
     → most_entries ≤ limits.entries → most_bytes ≤ limits.bytes
     → TasksFit program (map frames_of played) limits

@@ -1,5 +1,5 @@
 -- What holds of each element of a list, as the list is mapped, cut or joined.
-use Rattle.std.proofs.Common.{ℕ, zero, suc, ◌≡◌, Bool, true, false, cond, ◌||◌, List, [], ◌∷◌, ◌++◌, map, drop, find, Option, Some, refl, subst, ◌==◌, sum_by}
+use Rattle.std.proofs.Common.{ℕ, zero, suc, ◌≡◌, Bool, true, false, cond, ◌||◌, List, [], ◌∷◌, ◌++◌, map, drop, find, Option, Some, refl, subst, ◌==◌, sum_by, take}
 use Rattle.std.specs.List.{AllByRecursion as Each, list_any, cons_option}
 use Rattle.std.proofs.lemmas.Bool.{or_parts}
 use Rattle.nm_types.specs.Frames.{Frame}
@@ -55,6 +55,11 @@ pub each-image :
     → Each Q (map f xs)
 each-image Q f [] all = tt
 each-image Q f (x ∷ xs) all = (all.0, each-image Q f xs all.1)
+
+pub each-take : {X : Type 0} (P : X → Type 0) (n : ℕ) (xs : List X) → Each P xs → Each P (take n xs)
+each-take P zero xs all = tt
+each-take P (suc n) [] all = tt
+each-take P (suc n) (x ∷ xs) all = (all.0, each-take P n xs all.1)
 
 pub each-drop : {X : Type 0} (P : X → Type 0) (n : ℕ) (xs : List X) → Each P xs → Each P (drop n xs)
 each-drop P zero xs all = all

@@ -1,12 +1,13 @@
 -- After every legal history no frame in a line, and none that is offered, is longer than frames are.
-use Rattle.std.proofs.Common.{ℕ, zero, suc, ◌+◌, ◌-◌, ◌≡◌, Bool, true, false, cond, not, ◌&&◌, ◌==◌, nat_le, List, [], ◌∷◌, ◌++◌, map, filter, length, take, Option, Some, None, refl, sym, ◌∙◌, ap, subst, arith}
+use Rattle.std.proofs.Common.{ℕ, ◌+◌, ◌-◌, ◌≡◌, Bool, true, false, cond, not, ◌&&◌, ◌==◌, nat_le, List, [], ◌∷◌, ◌++◌, map, filter, length, Option, Some, None, refl, arith}
 use Rattle.std.specs.Prelude.{flat_map}
 use Rattle.std.specs.List.{AllByRecursion as Each, list_all, prefix_len}
 use Rattle.std.proofs.lemmas.Bool.{and_parts, leb-true, le-leb}
 use Rattle.nm_types.specs.Limits.{most_batch, most_frame_bytes}
 use Rattle.nm_types.specs.Frames.{Frame, slots_of, size_of_frames}
 use Rattle.nm_types.specs.Names.{is_switch_port_name}
-use Rattle.nm_types.specs.Sendable.{is_frame, fits_buffer, is_sendable, fit_slots}
+use Rattle.nm_types.specs.Sendable.{AreFrames, is_frame, fits_buffer, is_sendable, fit_slots}
+use Rattle.nm_types.proofs.Tests.{both_true}
 use Rattle.vale_entry.specs.declared.entry.Entry.{Entry}
 use Rattle.vale_entry.specs.declared.entry.Item.{Item}
 use Rattle.vale_entry.specs.World.{World, Port, Pair, Lot, Offer, transmit_monitor, receive_monitor, open_port, space_of, changed_at, is_settled}
@@ -18,10 +19,9 @@ use Rattle.vale_entry.specs.Grant.{longest_fitting, given_at, granted_frames, wi
 use Rattle.vale_entry.specs.Delivery.{is_done_lot, ready_lots, frames_of_lot, delivered_frames, done_if, lot_after_done, port_after_done, port_after_sync}
 use Rattle.vale_entry.specs.Closing.{shut}
 use Rattle.vale_entry.specs.Pipe.{frames_of_items, is_pipe_item, port_after_put}
-use Rattle.vale_entry.specs.Legal.{Standing, Outcome, after, named_of, can_send, offers_of_send, offers_of_sync, offers_of_put, open_step_by, send_step, grant_step, done_step, sync_step, put_step, shut_step, finish_step, fresh_standing}
-use Rattle.vale_entry.specs.Laws.{AreFrames, HoldsWholeLot, OffersWholeFrames, HaveFrames, LinesHaveFrames}
-use Rattle.vale_entry.proofs.Each.{each-append, each-map, each-all, each-drop, each-find, each-changed_at, each-offered, each-without_first}
-use Rattle.vale_entry.proofs.ListLaws.{place-of, each-at}
+use Rattle.vale_entry.specs.Legal.{Standing, Outcome, after, named_of, can_send, offers_of_send, offers_of_sync, offers_of_put, send_step, grant_step, done_step, sync_step, put_step}
+use Rattle.vale_entry.specs.Laws.{LotHasFrames, OfferHasFrames, HaveFrames, LinesHaveFrames}
+use Rattle.vale_entry.proofs.Each.{each-append, each-map, each-all, each-drop, each-find, each-changed_at, each-offered, each-without_first, each-take}
 use Rattle.vale_entry.proofs.Removals.{each-filter}
 use Rattle.vale_entry.proofs.Steps.{legal-by}
 use Rattle.vale_entry.proofs.Follows.{EachKind, CanKeep, after-by}
@@ -31,13 +31,9 @@ use Rattle.vale_entry.proofs.Follows.{EachKind, CanKeep, after-by}
 abbrev IsWhole : Frame → Type 0
 IsWhole frame = is_frame frame ≡ true
 
-both : (x y : Bool) → x ≡ true → y ≡ true → (x && y) ≡ true
-both true y e h = h
-both false y e h = absurd cc
-
 from-each : (frames : List Frame) → Each IsWhole frames → AreFrames frames
 from-each [] all = refl
-from-each (frame ∷ frames) all = both (is_frame frame) (list_all is_frame frames) all.0 (from-each frames all.1)
+from-each (frame ∷ frames) all = both_true (is_frame frame) (list_all is_frame frames) all.0 (from-each frames all.1)
 
 pub to-each : (frames : List Frame) → AreFrames frames → Each IsWhole frames
 to-each [] all = tt
@@ -49,7 +45,7 @@ pub frames-append : (xs ys : List Frame) → AreFrames xs → AreFrames ys → A
 frames-append [] ys a b = b
 frames-append (x ∷ xs) ys a b =
     let parts = and_parts (is_frame x) (list_all is_frame xs) a in
-    both (is_frame x) (list_all is_frame (xs ++ ys)) parts.0 (frames-append xs ys parts.1 b)
+    both_true (is_frame x) (list_all is_frame (xs ++ ys)) parts.0 (frames-append xs ys parts.1 b)
 
 -- a prefix that fits
 fitting-frames : (room : ℕ) (frames : List Frame) → AreFrames frames → AreFrames (longest_fitting room frames)
@@ -61,7 +57,7 @@ fitting-frames room (frame ∷ frames) all =
     by_test :
         (b : Bool) → IsWhole frame → AreFrames (longest_fitting (room - slots_of frame) frames)
         → AreFrames (cond b (frame ∷ longest_fitting (room - slots_of frame) frames) [])
-    by_test true here rest = both (is_frame frame) (list_all is_frame (longest_fitting (room - slots_of frame) frames)) here rest
+    by_test true here rest = both_true (is_frame frame) (list_all is_frame (longest_fitting (room - slots_of frame) frames)) here rest
     by_test false here rest = refl
 
 given-frames : (found : Option Port) (frames : List Frame) → AreFrames frames → AreFrames (given_at found frames)
@@ -81,7 +77,7 @@ named-whole ports sender pairs (frame ∷ frames) all =
 
 named-frames : (named : List Named) → Each NamesWhole named → AreFrames (map frame_of named)
 named-frames [] all = refl
-named-frames (n ∷ ns) all = both (is_frame (frame_of n)) (list_all is_frame (map frame_of ns)) all.0 (named-frames ns all.1)
+named-frames (n ∷ ns) all = both_true (is_frame (frame_of n)) (list_all is_frame (map frame_of ns)) all.0 (named-frames ns all.1)
 
 wanted-whole :
     (sender : Port) (monitor : Option ℕ) (named : List Named) (port : Port)
@@ -102,38 +98,33 @@ monitored-whole monitor frames port all = by_test (is_monitor monitor port)
 offers-whole :
     (origin session : ℕ) (wanted : Port → List Frame) (ports : List Port)
     → ((p : Port) → AreFrames (wanted p))
-    → Each OffersWholeFrames (offers_of origin session wanted ports)
+    → Each OfferHasFrames (offers_of origin session wanted ports)
 offers-whole origin session wanted ports whole =
-    each-offered OffersWholeFrames origin session wanted ports (each-all _ whole ports)
+    each-offered OfferHasFrames origin session wanted ports (each-all _ whole ports)
 
 -- Lines.
 
-abbrev HasWholeLine : Port → Type 0
-HasWholeLine port = Each HoldsWholeLot port.line
+abbrev LineHasFrames : Port → Type 0
+LineHasFrames port = Each LotHasFrames port.line
 
 with-lot :
     (number session : ℕ) (done : Bool) (frames : List Frame) (line : List Lot) → AreFrames frames
-    → Each HoldsWholeLot line → Each HoldsWholeLot (with_lot number session done frames line)
+    → Each LotHasFrames line → Each LotHasFrames (with_lot number session done frames line)
 with-lot number session done [] line whole all = all
-with-lot number session done (frame ∷ frames) line whole all = each-append HoldsWholeLot line _ all (whole, tt)
+with-lot number session done (frame ∷ frames) line whole all = each-append LotHasFrames line _ all (whole, tt)
 
-done-if : (b : Bool) (lot : Lot) → HoldsWholeLot lot → HoldsWholeLot (done_if b lot)
+done-if : (b : Bool) (lot : Lot) → LotHasFrames lot → LotHasFrames (done_if b lot)
 done-if true lot here = here
 done-if false lot here = here
 
-each-take : {X : Type 0} (P : X → Type 0) (n : ℕ) (xs : List X) → Each P xs → Each P (take n xs)
-each-take P zero xs all = tt
-each-take P (suc n) [] all = tt
-each-take P (suc n) (x ∷ xs) all = (all.0, each-take P n xs all.1)
-
-lots-frames : (lots : List Lot) → Each HoldsWholeLot lots → AreFrames (flat_map frames_of_lot lots)
+lots-frames : (lots : List Lot) → Each LotHasFrames lots → AreFrames (flat_map frames_of_lot lots)
 lots-frames [] all = refl
 lots-frames (lot ∷ lots) all = frames-append lot.frames (flat_map frames_of_lot lots) all.0 (lots-frames lots all.1)
 
 -- what a port delivers
-pub delivered-whole : (port : Port) → Each HoldsWholeLot port.line → AreFrames (delivered_frames port)
+pub delivered-whole : (port : Port) → Each LotHasFrames port.line → AreFrames (delivered_frames port)
 delivered-whole port all =
-    lots-frames (ready_lots port) (each-take HoldsWholeLot (prefix_len is_done_lot port.line) port.line all)
+    lots-frames (ready_lots port) (each-take LotHasFrames (prefix_len is_done_lot port.line) port.line all)
 
 items-whole : (items : List Item) → list_all is_pipe_item items ≡ true → AreFrames (frames_of_items items)
 items-whole [] sound = refl
@@ -141,7 +132,7 @@ items-whole (item ∷ items) sound =
     let parts = and_parts (is_pipe_item item) (list_all is_pipe_item items) sound in
     let fits = (and_parts (fits_buffer item.bytes) (not item.bytes.no_learn) parts.0).0 in
     let few = leb-true (length item.bytes.bytes) 2048 fits in
-    both (is_frame item.bytes) (list_all is_frame (frames_of_items items))
+    both_true (is_frame item.bytes) (list_all is_frame (frames_of_items items))
     (le-leb (length item.bytes.bytes) most_frame_bytes (omega (arith, few))) (items-whole items parts.1)
 
 sent-whole : (w : World) (frames : List Frame) (port : Port) → can_send w frames port ≡ true → AreFrames frames
@@ -164,10 +155,10 @@ module _ (s : Standing) (k : Whole s) where
   w = s.world
 
   changed :
-      (id : ℕ) (change : Port → Port) → ((p : Port) → HasWholeLine p → HasWholeLine (change p))
-      → Each HasWholeLine (changed_at id change w.ports)
+      (id : ℕ) (change : Port → Port) → ((p : Port) → LineHasFrames p → LineHasFrames (change p))
+      → Each LineHasFrames (changed_at id change w.ports)
   changed id change keeps =
-      each-changed_at HasWholeLine HasWholeLine id change (λ p all. all) keeps w.ports k.lines
+      each-changed_at LineHasFrames LineHasFrames id change (λ p all. all) keeps w.ports k.lines
 
   whole_send :
       (frames : List Frame) (port : Port) → can_send w frames port ≡ true
@@ -177,7 +168,7 @@ module _ (s : Standing) (k : Whole s) where
       let named = named-whole w.ports port w.pairs frames (to-each frames all) in
       record {
         lines = k.lines;
-        offered = each-append OffersWholeFrames w.offers (offers_of_send w port frames) k.offered
+        offered = each-append OfferHasFrames w.offers (offers_of_send w port frames) k.offered
             (offers-whole (w.entry_count + 1) port.session
             (wanted_frames port (transmit_monitor w port.id) (named_of w port frames)) w.ports
             (λ p. wanted-whole port (transmit_monitor w port.id) (named_of w port frames) p named));
@@ -187,20 +178,20 @@ module _ (s : Standing) (k : Whole s) where
       (origin : ℕ) (offer : Offer) → first_offer w origin ≡ Some offer
       → WholeNext (grant_step s offer)
   whole_grant origin offer first =
-      let mine : OffersWholeFrames offer = each-find OffersWholeFrames _ w.offers offer k.offered first in
+      let mine : OfferHasFrames offer = each-find OfferHasFrames _ w.offers offer k.offered first in
       let given = given-frames (open_port w.ports offer.to) offer.frames mine in
       record {
         lines = changed offer.to
             (port_after_grant (w.entry_count + 1) offer.session (granted_frames w offer))
             (λ p all. with-lot (w.entry_count + 1) offer.session false (granted_frames w offer) p.line given all);
-        offered = each-without_first OffersWholeFrames offer.origin w.offers k.offered;
+        offered = each-without_first OfferHasFrames offer.origin w.offers k.offered;
       }
 
   whole_done : (number : ℕ) (lot : Lot) → WholeNext (done_step s number lot)
   whole_done number lot = record {
     lines =
-        each-map HasWholeLine HasWholeLine (port_after_done number)
-        (λ p all. each-map HoldsWholeLot HoldsWholeLot (lot_after_done number)
+        each-map LineHasFrames LineHasFrames (port_after_done number)
+        (λ p all. each-map LotHasFrames LotHasFrames (lot_after_done number)
         (λ l here. done-if (l.number == number) l here) p.line all) w.ports k.lines;
     offered = k.offered;
   }
@@ -209,11 +200,11 @@ module _ (s : Standing) (k : Whole s) where
       (id : ℕ) (back : List ℕ) (port : Port) → open_port w.ports id ≡ Some port
       → WholeNext (sync_step s back port)
   whole_sync id back port found =
-      let mine : HasWholeLine port = each-find HasWholeLine _ w.ports port k.lines found in
+      let mine : LineHasFrames port = each-find LineHasFrames _ w.ports port k.lines found in
       record {
         lines = changed port.id (port_after_sync (length back))
-            (λ p all. each-drop HoldsWholeLot (length (ready_lots p)) p.line all);
-        offered = each-append OffersWholeFrames w.offers (offers_of_sync w port) k.offered
+            (λ p all. each-drop LotHasFrames (length (ready_lots p)) p.line all);
+        offered = each-append OfferHasFrames w.offers (offers_of_sync w port) k.offered
             (offers-whole (w.entry_count + 1) port.session
             (monitored_frames (receive_monitor w port.id) (delivered_frames port)) w.ports
             (λ p. monitored-whole (receive_monitor w port.id) (delivered_frames port) p (delivered-whole port mine)));
@@ -228,7 +219,7 @@ module _ (s : Standing) (k : Whole s) where
         lines = changed peer.id
             (port_after_put (w.entry_count + 1) port.session (frames_of_items items))
             (λ p lots. with-lot (w.entry_count + 1) port.session true (frames_of_items items) p.line all lots);
-        offered = each-append OffersWholeFrames w.offers (offers_of_put w port (frames_of_items items)) k.offered
+        offered = each-append OfferHasFrames w.offers (offers_of_put w port (frames_of_items items)) k.offered
             (offers-whole (w.entry_count + 1) port.session
             (monitored_frames (transmit_monitor w port.id) (frames_of_items items)) w.ports
             (λ p. monitored-whole (transmit_monitor w port.id) (frames_of_items items) p all));
@@ -239,7 +230,7 @@ module _ (s : Standing) (k : Whole s) where
     enters = λ user fits. k;
     quiet = λ ask session reply quiet. k;
     opens = λ session name tx rx extra can refusal. record {
-      lines = each-append HasWholeLine w.ports
+      lines = each-append LineHasFrames w.ports
           (opened_port (w.entry_count + 1) session.0 name tx rx extra ∷ []) k.lines (tt, tt);
       offered = k.offered;
     };
@@ -251,7 +242,7 @@ module _ (s : Standing) (k : Whole s) where
     watches = λ at target sides port found e can there none. record { lines = k.lines; offered = k.offered };
     shuts = λ at port e settled. record { lines = changed port.id shut (λ p all. all); offered = k.offered };
     finishes = λ at bufs chain port fits e can out. record {
-      lines = each-filter HasWholeLine (λ (p : Port). not (p.id == port.id)) w.ports k.lines;
+      lines = each-filter LineHasFrames (λ (p : Port). not (p.id == port.id)) w.ports k.lines;
       offered = k.offered;
     };
     leaves = λ session can. record { lines = k.lines; offered = k.offered };

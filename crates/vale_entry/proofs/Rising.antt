@@ -1,6 +1,6 @@
 -- Numbers that rise strictly, and lists of records whose keys do: a change at one key is a change
 -- at one place.
-use Rattle.std.proofs.Common.{ℕ, zero, suc, ◌<◌, ◌≤◌, ◌≡◌, Bool, true, false, ◌==◌, List, [], ◌∷◌, ◌++◌, map, drop, slice_get, slice_set, Some, find, refl, ◌∙◌, ap, arith, ◌+◌, take}
+use Rattle.std.proofs.Common.{ℕ, zero, suc, ◌<◌, ◌≤◌, ◌≡◌, Bool, true, false, ◌==◌, List, [], ◌∷◌, ◌++◌, map, drop, slice_get, slice_set, Some, find, refl, ◌∙◌, ap, arith, ◌+◌, take, length, get_or}
 use Rattle.std.specs.List.{AllByRecursion as Each, range_with_len}
 use Rattle.std.proofs.lemmas.Bool.{ne_eqb}
 use Rattle.vale_entry.proofs.Each.{each-weaker, each-drop}
@@ -49,6 +49,21 @@ rise-slice_get key low (y ∷ ys) high (suc i) x r e =
     let rest = rise-slice_get key (key y) ys high i x r.1 e in
     let first : low < key y = r.0 in
     (omega arith, rest.1)
+
+-- each number is above the lower bound, and above those before it
+rise-at : (low : ℕ) (ns : List ℕ) (high j d : ℕ) → Rise low ns high → j < length ns → low < get_or ns j d
+rise-at low [] high j d rise within = absurd (omega (arith, within))
+rise-at low (n ∷ ns) high zero d rise within = rise.0
+rise-at low (n ∷ ns) high (suc j) d rise within =
+    let rest = rise-at n ns high j d rise.1 (omega (arith, within)) in
+    let first : low < n = rise.0 in
+    omega (arith, first, rest)
+
+pub rise-increases : (low : ℕ) (ns : List ℕ) (high i j d : ℕ) → Rise low ns high → i < j → j < length ns → get_or ns i d < get_or ns j d
+rise-increases low [] high i j d rise less within = absurd (omega (arith, within))
+rise-increases low (n ∷ ns) high i zero d rise less within = absurd (omega (arith, less))
+rise-increases low (n ∷ ns) high zero (suc j) d rise less within = rise-at n ns high j d rise.1 (omega (arith, within))
+rise-increases low (n ∷ ns) high (suc i) (suc j) d rise less within = rise-increases n ns high i j d rise.1 (omega (arith, less)) (omega (arith, within))
 
 -- what changes one key only leaves elements of higher keys as they are
 map-above_key : {X : Type 0} (key : X → ℕ) (change : X → X) (k low : ℕ) (xs : List X) (high : ℕ)

@@ -14,9 +14,8 @@ use Rattle.vale_entry.specs.Fits.{FitsEntry}
 use Rattle.vale_entry.specs.declared.entry.Span.{Span}
 use Rattle.vale_entry.specs.Spans.{spans_of, spans_in, numbers_in, AreSpansOf}
 use Rattle.std.specs.Prelude.{ℕ, true, false, not, ◌&&◌, ◌==◌, ◌≡◌, ◌+◌, ◌-◌, ◌<◌, ◌≤◌, ◌^◌, List, [], ◌∷◌, Some, map, length, flat_map, sum_by, count_by, Bool, All, ◌++◌, take, drop, is_some, slice_get, Option, bytes_eq}
-use Rattle.std.specs.List.{list_any, list_all, AllByRecursion}
-use Rattle.nm_types.specs.Frames.{Frame}
-use Rattle.nm_types.specs.Sendable.{is_frame}
+use Rattle.std.specs.List.{list_any, AllByRecursion}
+use Rattle.nm_types.specs.Sendable.{AreFrames}
 use Rattle.nm_types.specs.Names.{is_monitor_name}
 use Rattle.vale_entry.specs.Monitors.{is_watch_at}
 use Rattle.vale_entry.specs.Opening.{is_on_switch}
@@ -287,20 +286,16 @@ LotsAreOfEntries =
     → AllByRecursion (λ (port : Port). AllByRecursion (IsOfEntry history) port.line)
     (world_of pool history).ports
 
--- frames that are no longer than frames are
-abbrev pub AreFrames : List Frame → Type 0
-AreFrames frames = list_all is_frame frames ≡ true
+abbrev pub LotHasFrames : Lot → Type 0
+LotHasFrames lot = AreFrames lot.frames
 
-abbrev pub HoldsWholeLot : Lot → Type 0
-HoldsWholeLot lot = AreFrames lot.frames
-
-abbrev pub OffersWholeFrames : Offer → Type 0
-OffersWholeFrames offer = AreFrames offer.frames
+abbrev pub OfferHasFrames : Offer → Type 0
+OfferHasFrames offer = AreFrames offer.frames
 
 -- all frames that are in lines, and all that are offered
 pub record HaveFrames (ports : List Port) (offers : List Offer) : Type 0 where
-  pub lines : AllByRecursion (λ (port : Port). AllByRecursion HoldsWholeLot port.line) ports
-  pub offered : AllByRecursion OffersWholeFrames offers
+  pub lines : AllByRecursion (λ (port : Port). AllByRecursion LotHasFrames port.line) ports
+  pub offered : AllByRecursion OfferHasFrames offers
 
 abbrev pub LinesHaveFrames : Type 0
 LinesHaveFrames = WhereverLegal (λ (pool : ℕ) (s : Standing). HaveFrames s.world.ports s.world.offers)

@@ -1,7 +1,7 @@
 -- Worked examples of the calls of a session, as theorems about the definitions: a pool of 64
 -- buffers, two users, and a port of 4 and 4 slots each, a port `vale0:a` or `pipe0{` of the first
 -- and `vale0:b` of the second.
-use Rattle.std.specs.Prelude.{ℕ, ◌≡◌, ◌-◌, false, List, [], ◌∷◌, map, take, slice_get, codes, Option, Some, None, option_map, option_and_then, refl}
+use Rattle.std.specs.Prelude.{ℕ, ◌≡◌, ◌-◌, false, List, [], ◌∷◌, ◌++◌, length, map, replicate, take, slice_get, codes, Option, Some, None, option_map, option_and_then, refl}
 use Rattle.nm_types.specs.declared.id.Side.{Side}
 use Rattle.nm_types.specs.declared.id.Side.TheVariants.{Tx, Rx}
 use Rattle.nm_types.specs.declared.fault.SyncFault.TheVariants.{HeadOut, CurOut, Unannounced}
@@ -15,7 +15,7 @@ use Rattle.vale_entry.specs.declared.entry.Item.{Item}
 use Rattle.vale_entry.specs.declared.entry.Entry.{Entry}
 use Rattle.vale_entry.specs.Legal.{standing_of}
 use Rattle.vale_entry.specs.Arrivals.{arrivals_of}
-use Rattle.vale_entry.specs.RowWords.{entry, port, frame_f}
+use Rattle.vale_entry.specs.RowWords.{entry, port, everyone, mac, frame_f}
 use Rattle.vale_entry.specs.Rows.{first_run_of}
 use Rattle.vale_entry.specs.OwnCalls.{tx_call, rx_call, finish_call, own_after}
 
@@ -67,6 +67,19 @@ sync_brings :
     ≡ record { buffer = 14; bytes = frame_f.bytes; rest = 0 } ∷ []
 unfolding is_name is_switch_port_name is_pipe_name is_monitor_name switch_of
 sync_brings = refl
+
+-- and a frame of 2,049 bytes, in the first two, a part in each
+abbrev long_history : List Entry
+long_history = first_run_of (record { bytes = everyone ++ mac 10 ++ replicate 2037 17; no_learn = false })
+
+abbrev what_came : Arrival → ℕ × ℕ × ℕ
+what_came came = (came.buffer, length came.bytes, came.rest)
+
+sync_brings_parts :
+    map what_came (arrivals_of (standing_of 64 (take 7 long_history)) (Sync (port 4) []) (Gave 1 []))
+    ≡ (14, 2048, 1) ∷ (15, 1, 0) ∷ []
+unfolding is_name is_switch_port_name is_pipe_name is_monitor_name switch_of
+sync_brings_parts = refl
 
 -- the first user puts a frame, and sends it
 abbrev first_user : OwnState

@@ -1,7 +1,6 @@
 -- The frames with which leases are filled, and a lease that is filled frame by frame.
-use Rattle.std.specs.Prelude.{ℕ, true, ◌≡◌, List, drop, map, take, slice_get, Some}
-use Rattle.std.specs.List.{list_all}
-use Rattle.nm_types.specs.Sendable.{is_frame}
+use Rattle.std.specs.Prelude.{ℕ, ◌≡◌, List, drop, map, take, slice_get, Some}
+use Rattle.nm_types.specs.Sendable.{AreFrames}
 use Rattle.vale_line.specs.Gots.{frames_in, IsCut}
 use Rattle.vale_line.specs.Leased.{Leased, contents}
 use Rattle.vale_port.specs.Kept.{bytes_of}
@@ -16,7 +15,7 @@ bytes_from (Gots gots) = frames_in gots.now
 
 -- frames of a batch are no longer than frames are, and received ones are cut as frames are
 abbrev pub AreFitting : Frames → Type 0
-AreFitting (Batch batch) = list_all is_frame batch.now ≡ true
+AreFitting (Batch batch) = AreFrames batch.now
 AreFitting (Gots gots) = IsCut gots.now
 
 -- the frames at the first of these places are filled in, each in the next of the buffers

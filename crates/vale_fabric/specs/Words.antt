@@ -3,7 +3,7 @@ pub use Rattle.nm_turn.specs.Numbered.{Stands}
 pub use Rattle.nm_turn.specs.Passes.{HasAll, Knows, forked_view, joined_view, kept_view}
 pub use Rattle.nm_turn.specs.Shares.{IsWhole}
 pub use Rattle.nm_frag.specs.Parts.{slots_of_length}
-pub use Rattle.nm_types.specs.Sendable.{fits_buffer, is_frame}
+pub use Rattle.nm_types.specs.Sendable.{AreFrames, fits_buffer}
 pub use Rattle.std.specs.List.{list_all}
 pub use Rattle.vale_book.specs.Putting.{IsPut}
 pub use Rattle.vale_book.specs.Recorded.{HadRoom, Recorded}

@@ -1,8 +1,8 @@
 //! Leases are filled, outside the turn.
-ghost use Rattle.std.specs.Prelude.{ℕ, true, ◌≡◌, ◌≤◌, ◌<◌, ◌+◌, [], ◌∷◌, ◌++◌, length};
+ghost use Rattle.std.specs.Prelude.{ℕ, ◌≡◌, ◌≤◌, ◌<◌, ◌+◌, [], ◌∷◌, ◌++◌, length};
 ghost use Rattle.nm_types.specs.Limits.{most_frame_bytes};
 ghost use Rattle.vale_fabric.specs.Words.{AreOf, IsCut, Recorded, buffers_of, bytes_of, contents};
-ghost use Rattle.vale_fabric.specs.Words.{frames_in, is_frame, list_all, next_of, slots_of_length};
+ghost use Rattle.vale_fabric.specs.Words.{AreFrames, frames_in, next_of, slots_of_length};
 ghost use Rattle.vale_fabric.specs.Words.{with_frame};
 ghost use Rattle.vale_fabric.specs.Filling.{AreFitting, Begins, IsFilling, bytes_from};
 ghost use Rattle.vale_book.specs.Leases.{IsFilledBy, IsHeldFor, IsToFill};
@@ -44,7 +44,7 @@ fn fill_next(lease: &mut Lease, bytes: &[u8])
 /// Fills a lease with frames of a batch.
 fn fill_from_batch(lease: &mut Lease, batch: &Batch, places: &[u32])
     requires held { IsToFill lease.old (bytes_of batch.now) places.now }
-    requires fit { list_all is_frame batch.now ≡ true }
+    requires fit { AreFrames batch.now }
     ensures { IsFilling lease.old (bytes_of batch.now) places.now (length places.now) lease.new }
 {
     for i in 0..places.len() {

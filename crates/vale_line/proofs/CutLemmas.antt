@@ -1,18 +1,17 @@
 -- Buffers in which frames lie, each cut as frames are.
-use Rattle.std.proofs.Common.{ℕ, suc, zero, true, false, ◌≡◌, ◌+◌, ◌<◌, ◌≤◌, List, [], ◌∷◌, ◌++◌, length, take, drop, map, get_or, slice_set, refl, sym, ◌∙◌, ap, subst, arith}
-use Rattle.std.specs.Prelude.{All, flat_map}
+use Rattle.std.proofs.Common.{ℕ, suc, zero, true, false, ◌≡◌, ◌+◌, ◌<◌, ◌≤◌, List, [], ◌∷◌, ◌++◌, length, take, drop, map, get_or, slice_set, refl, sym, ◌∙◌, ap, arith}
+use Rattle.std.specs.Prelude.{All}
 use Rattle.std.specs.List.{concat}
-use Rattle.std.proofs.Math.Seq.{take-append_seam}
 use Rattle.std.proofs.lemmas.Bool.{ne_eqb, eq-eqb}
 use Rattle.std.proofs.lemmas.List.{append-nil, append_assoc, map-append}
 use Rattle.std.proofs.lemmas.List.Elements.{All-head, All-tail}
 use Rattle.nm_region.specs.Buffers.{Buffer}
 use Rattle.nm_frag.specs.Parts.{slots_of_length, slots_of_bytes, parts_of, HeldPart, told_parts, cut_frame, cut_frames}
-use Rattle.nm_frag.proofs.PartLemmas.{length-parts, parts_are_frame, slots-some, told-one}
+use Rattle.nm_frag.proofs.PartLemmas.{length-parts, parts_are_frame, told-one}
 use Rattle.vale_line.specs.declared.got.Got.{Got}
-use Rattle.vale_line.specs.Gots.{got_of, part_in, is_last, frames_behind, frames_in, begun_behind, HoldWholeFrames, gots_of_parts, gots_with, written_parts, copied_parts, joined_parts, held_part, held_parts, IsCut, IsSingle, FitsPart}
+use Rattle.vale_line.specs.Gots.{got_of, part_in, is_last, frames_behind, frames_in, gots_of_parts, gots_with, written_parts, copied_parts, joined_parts, held_part, held_parts, IsCut, IsSingle, FitsPart}
 use Rattle.vale_line.specs.Leased.{sizes_behind, sizes_in}
-use Rattle.vale_line.proofs.FrameLemmas.{frames_in-append, frames_in-with, part_in-got_of, parts-some}
+use Rattle.vale_line.proofs.FrameLemmas.{begun_behind, HoldWholeFrames, frames_in-append, frames_in-with, part_in-got_of, parts-some}
 use Rattle.vale_line.proofs.Filling.{sizes-skip}
 
 pub held-append : (a b : List Got) → held_parts (a ++ b) ≡ held_parts a ++ held_parts b

@@ -10,10 +10,10 @@ use Rattle.nm_frag.specs.Parts.{slots_of_length, parts_of}
 use Rattle.nm_frag.proofs.PartLemmas.{slots-some}
 use Rattle.vale_line.specs.declared.got.Got.{Got}
 use Rattle.vale_line.specs.declared.lease.Lease.TheInside.{Inside}
-use Rattle.vale_line.specs.Gots.{buffer_of, buffers_of, frames_in, gots_with, written_parts, HoldWholeFrames, IsCut}
+use Rattle.vale_line.specs.Gots.{buffer_of, buffers_of, frames_in, gots_with, written_parts, IsCut}
 use Rattle.vale_line.specs.Leased.{Leased, first_size, sizes_in, with_frame}
 use Rattle.vale_line.specs.Stored.{lease_state, IsStoredLease}
-use Rattle.vale_line.proofs.FrameLemmas.{frames_in-append, frames_in-with}
+use Rattle.vale_line.proofs.FrameLemmas.{HoldWholeFrames, frames_in-append, frames_in-with}
 use Rattle.vale_line.proofs.CutLemmas.{cut-whole, cut-append, cut-with}
 use Rattle.vale_line.proofs.Filling.{filled-in, drop-buffers, sizes-first, get-drop}
 use Rattle.vale_line.proofs.FittingLemmas.{sum-cons}

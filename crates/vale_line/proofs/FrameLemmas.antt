@@ -1,5 +1,5 @@
 -- Frames in buffers, one behind the other.
-use Rattle.std.proofs.Common.{ℕ, true, false, ◌≡◌, ◌+◌, ◌≤◌, List, [], ◌∷◌, ◌++◌, length, drop, reverse, inl, inr, refl, sym, ◌∙◌, ap, arith}
+use Rattle.std.proofs.Common.{ℕ, true, false, cond, ◌≡◌, ◌+◌, ◌≤◌, List, [], ◌∷◌, ◌++◌, length, drop, reverse, inl, inr, refl, sym, ◌∙◌, ap, arith}
 use Rattle.std.specs.Prelude.{All, sum_by}
 use Rattle.std.specs.List.{concat}
 use Rattle.std.proofs.Math.Seq.{take-append_seam}
@@ -11,7 +11,16 @@ use Rattle.nm_region.specs.Buffers.{Buffer}
 use Rattle.nm_frag.specs.Parts.{slots_of_length, parts_of}
 use Rattle.nm_frag.proofs.PartLemmas.{length-parts, parts_are_frame, slots-some}
 use Rattle.vale_line.specs.declared.got.Got.{Got}
-use Rattle.vale_line.specs.Gots.{got_of, part_in, is_last, last_count, frames_behind, frames_in, begun_behind, HoldWholeFrames, gots_of_parts, gots_with, IsSingle}
+use Rattle.vale_line.specs.Gots.{got_of, part_in, is_last, last_count, frames_behind, frames_in, gots_of_parts, gots_with, IsSingle}
+
+-- the bytes of a frame that began and has not ended
+abbrev pub begun_behind : List ℕ → List Got → List ℕ
+begun_behind begun [] = begun
+begun_behind begun (got ∷ gots) = cond (is_last got) (begun_behind [] gots) (begun_behind (begun ++ part_in got) gots)
+
+-- no frame begins in these buffers and ends elsewhere
+abbrev pub HoldWholeFrames : List Got → Type 0
+HoldWholeFrames gots = begun_behind [] gots ≡ []
 
 pub frames_behind-append : (begun : List ℕ) (a b : List Got) → frames_behind begun (a ++ b) ≡ frames_behind begun a ++ frames_behind (begun_behind begun a) b
 frames_behind-append begun [] b = refl

@@ -16,8 +16,8 @@ use Rattle.vale_lease.specs.Leases.{AreLeases, is_there, is_lease_out, is_out, o
 use Rattle.vale_lease.proofs.LeaseLemmas.{length-le-slots, leases-push, leases-drop, slots-completed, out_there}
 use Rattle.vale_lease.proofs.LeaseLemmas.{leases-completed as ring-completed}
 use Rattle.vale_line.specs.declared.got.Got.{Got}
-use Rattle.vale_line.specs.Gots.{frames_in, last_count, HoldWholeFrames, IsCut}
-use Rattle.vale_line.proofs.FrameLemmas.{frames_in-append}
+use Rattle.vale_line.specs.Gots.{frames_in, last_count, IsCut}
+use Rattle.vale_line.proofs.FrameLemmas.{HoldWholeFrames, frames_in-append}
 use Rattle.vale_line.proofs.CutLemmas.{cut-whole, cut-append}
 use Rattle.vale_line.specs.Lines.{HeldLot, LineState, is_done, gots_of, lease_of, leases_of, slots_of, done_lots, behind_done, ready_gots, ready_frames, frames_of_lot, completed, opened_lot, put_lot, with_lease, given_by_sync, out_of, space_of, first_gots, gots_of_first, is_out_at, slots_out, IsLot, IsLine}
 

@@ -1,32 +1,26 @@
 -- The frames that a sync would give: how many, and how large they are.
-use Rattle.std.proofs.Common.{ℕ, zero, suc, true, false, ◌≡◌, ◌+◌, ◌<◌, ◌≤◌, List, [], ◌∷◌, ◌++◌, length, drop, map, Option, Some, None, get_or, inl, inr, refl, sym, ◌∙◌, ap, arith}
+use Rattle.std.proofs.Common.{ℕ, zero, suc, false, ◌≡◌, ◌+◌, ◌<◌, ◌≤◌, List, [], ◌∷◌, ◌++◌, length, drop, map, Option, Some, None, get_or, inl, inr, refl, sym, ◌∙◌, ap, arith}
 use Rattle.std.specs.Prelude.{All, flat_map, is_some, option_map, sum_by}
-use Rattle.std.specs.List.{prefix_len}
 use Rattle.std.proofs.lemmas.Bool.{cases_Bool}
-use Rattle.std.proofs.lemmas.List.{append_assoc, append-nil, length-append, length-map, map-append, drop_all}
+use Rattle.std.proofs.lemmas.List.{append-nil, length-append, length-map, map-append, drop_all}
 use Rattle.std.proofs.lemmas.List.Elements.{All-head, All-tail}
 use Rattle.std.proofs.lemmas.List.Sums.{sum_by-append, sum_by-cons}
 use Rattle.nm_frag.specs.Parts.{slots_of_bytes}
+use Rattle.nm_types.proofs.Lists.{drop-get_or}
 use Rattle.vale_line.specs.declared.got.Got.{Got}
 use Rattle.vale_line.specs.declared.lot.Lot.{Lot}
-use Rattle.vale_line.specs.Gots.{frames_in, last_count}
+use Rattle.vale_line.specs.Gots.{last_count}
 use Rattle.vale_line.specs.Leased.{sizes_in}
-use Rattle.vale_line.specs.Lines.{HeldLot, is_done, gots_of, first_gots, ready_gots, ready_frames, ready_sizes, frames_of_lot, sizes_of_lot, done_lots, IsLot}
+use Rattle.vale_line.specs.Lines.{HeldLot, is_done, gots_of, ready_gots, ready_frames, ready_sizes, frames_of_lot, sizes_of_lot, IsLot}
 use Rattle.vale_line.specs.Rings.{held, held_lots}
 use Rattle.vale_line.proofs.FrameLemmas.{count-frames, few-lasts}
 use Rattle.vale_line.proofs.CutLemmas.{cut-sizes}
 use Rattle.vale_line.proofs.Filling.{sizes-skip}
 use Rattle.vale_line.proofs.LotLemmas.{done-cons, first-ready, none-ready, ready-frames, cut-lot}
 
-module _ {X : Type 0} where
-  pub drop-at : (xs : List X) (i : ℕ) (d : X) → i < length xs → drop i xs ≡ get_or xs i d ∷ drop (i + 1) xs
-  drop-at [] i d within = absurd (omega (arith, within))
-  drop-at (x ∷ xs) zero d within = refl
-  drop-at (x ∷ xs) (suc i) d within = let next : suc i + 1 ≡ suc (i + 1) = omega arith in rw next (drop-at xs i d (omega (arith, within)))
-
 -- one buffer more is counted
 pub lasts-more : (gots : List Got) (i : ℕ) (d : Got) → i < length gots → sum_by last_count (drop i gots) ≡ last_count (get_or gots i d) + sum_by last_count (drop (i + 1) gots)
-lasts-more gots i d within = ap (sum_by last_count) (drop-at gots i d within) ∙ sum_by-cons last_count (get_or gots i d) (drop (i + 1) gots)
+lasts-more gots i d within = ap (sum_by last_count) (drop-get_or gots i d within) ∙ sum_by-cons last_count (get_or gots i d) (drop (i + 1) gots)
 
 -- one frame more is told
 pub sizes-more : (gots : List Got) (at : ℕ) (d : Got) → at < length gots → sizes_in (drop at gots) ≡ suc (get_or gots at d).rest ∷ sizes_in (drop (at + suc (get_or gots at d).rest) gots)

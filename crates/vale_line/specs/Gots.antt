@@ -1,6 +1,7 @@
 -- Buffers with frames in their first bytes. A frame of several slots lies in as many buffers, one
 -- behind the other.
 use Rattle.std.specs.Prelude.{ℕ, Bool, ◌≡◌, ◌≤◌, ◌==◌, if◌then◌else◌, List, [], ◌∷◌, ◌++◌, length, take, map, flat_map}
+use Rattle.nm_types.specs.Limits.{buffer_bytes}
 use Rattle.nm_frag.specs.Parts.{parts_of, HeldPart, cut_frames}
 use Rattle.nm_region.specs.Buffers.{Buffer}
 use Rattle.nm_region.specs.Marked.{with_front}
@@ -42,16 +43,6 @@ frames_behind begun (got ∷ gots) =
 abbrev pub frames_in : List Got → List (List ℕ)
 frames_in gots = frames_behind [] gots
 
--- the bytes of a frame that began and has not ended
-abbrev pub begun_behind : List ℕ → List Got → List ℕ
-begun_behind begun [] = begun
-begun_behind begun (got ∷ gots) =
-    if is_last got then begun_behind [] gots else begun_behind (begun ++ part_in got) gots
-
--- no frame begins in these buffers and ends elsewhere
-abbrev pub HoldWholeFrames : List Got → Type 0
-HoldWholeFrames gots = begun_behind [] gots ≡ []
-
 -- a frame's parts in buffers, one in each
 abbrev pub gots_of_parts : List (List ℕ) → List Buffer → List Got
 gots_of_parts [] buffers = []
@@ -91,7 +82,7 @@ copied_parts (part ∷ parts) (got ∷ gots) = got_of part.bytes part.rest got.b
 
 -- no more bytes than a buffer has
 abbrev pub FitsPart : Got → Type 0
-FitsPart got = length (part_in got) ≤ 2048
+FitsPart got = length (part_in got) ≤ buffer_bytes
 
 -- a frame of one slot
 abbrev pub IsSingle : Got → Type 0

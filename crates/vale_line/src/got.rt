@@ -1,4 +1,5 @@
 ghost use Rattle.std.specs.Prelude.{◌≡◌, ◌≤◌, length};
+ghost use Rattle.nm_types.specs.Limits.{buffer_bytes};
 ghost use Rattle.vale_line.specs.Gots.{blank, got_of, last_count, part_in};
 
 use nm_region::Buf;
@@ -40,7 +41,7 @@ impl Got {
     #[tactic(auto, using(crate::proofs::Filling::parts_in))]
     pub fn part(&self) -> &[u8]
         ensures part { result.now ≡ part_in self.now }
-        ensures size { length result.now ≤ 2048 }
+        ensures size { length result.now ≤ buffer_bytes }
     {
         let bytes = self.buf.bytes();
         &bytes[..bytes.len().min(self.len as usize)]
@@ -48,7 +49,7 @@ impl Got {
 
     /// Copies a part of a frame into the buffer. `rest` more parts follow.
     pub(crate) fn fill(&mut self, part: &[u8], rest: u8)
-        requires { length part.now ≤ 2048 }
+        requires { length part.now ≤ buffer_bytes }
         ensures { self.new ≡ got_of part.now rest self.old.buf }
     {
         self.buf.write(part);

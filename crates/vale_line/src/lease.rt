@@ -1,5 +1,5 @@
 ghost use Rattle.std.specs.Prelude.{ℕ, ◌≡◌, ◌≤◌, ◌<◌, ◌+◌, [], ◌∷◌, ◌++◌, All, length, map, take, drop, sum, true, false, IfOk, vec_capacity};
-ghost use Rattle.nm_types.specs.Limits.{most_frame_bytes, most_ring};
+ghost use Rattle.nm_types.specs.Limits.{buffer_bytes, most_frame_bytes, most_ring};
 ghost use Rattle.nm_frag.specs.Parts.{slots_of_length, parts_of, cut_frame};
 ghost use Rattle.vale_line.specs.Fitting.{IsFrameSize};
 ghost use Rattle.vale_line.specs.Gots.{blank, buffers_of, written_parts, copied_parts, held_parts, joined_parts, IsCut};
@@ -84,7 +84,7 @@ fn mark_blank(gots: &mut Vec<Got>, sizes: &[u32])
 
 /// Copies a frame of one part into the buffer at `at`.
 fn fill_first(gots: &mut Vec<Got>, at: usize, bytes: &[u8])
-    requires frame { length bytes.now ≤ 2048 }
+    requires frame { length bytes.now ≤ buffer_bytes }
     requires room { at < length gots.old.items }
     ensures { gots.new.items ≡ take at gots.old.items
         ++ written_parts (parts_of bytes.now) (drop at gots.old.items) }
@@ -92,7 +92,7 @@ fn fill_first(gots: &mut Vec<Got>, at: usize, bytes: &[u8])
     gots[at].fill(bytes, 0);
 }
 
-/// Copies a frame into the buffers from `at` on, 2048 bytes in each but the last.
+/// Copies a frame into the buffers from `at` on, a full part in each but the last.
 fn fill_parts(gots: &mut Vec<Got>, at: usize, bytes: &[u8])
     requires frame { length bytes.now ≤ most_frame_bytes }
     requires room { at + slots_of_length (length bytes.now) ≤ length gots.old.items }
@@ -261,7 +261,7 @@ impl Lease {
     /// Copies a frame that fits one buffer, as the next size says, into the next buffer.
     #[tactic(auto, using(crate::proofs::Filling::filling))]
     pub fn fill_one(&mut self, bytes: &[u8])
-        requires frame { length bytes.now ≤ 2048 }
+        requires frame { length bytes.now ≤ buffer_bytes }
         requires next { next_of self.old ≡ 1 }
         ensures lease { self.new ≡ with_frame bytes.now self.old }
         ensures contents { contents self.new ≡ contents self.old ++ bytes.now ∷ [] }

@@ -201,7 +201,8 @@ impl Line {
     pub fn ready_sizes(&self, sizes: &mut Vec<u32>)
         requires none { sizes.old.items ≡ [] }
         requires room { length (ready_frames self.now.lots) ≤ vec_capacity sizes.old }
-        ensures { sizes.new.items ≡ map slots_of_bytes (ready_frames self.now.lots) }
+        ensures sizes { sizes.new.items ≡ map slots_of_bytes (ready_frames self.now.lots) }
+        ensures capacity { vec_capacity sizes.new ≡ vec_capacity sizes.old }
     {
         self.ring.push_ready(sizes);
     }

@@ -13,8 +13,8 @@ use Rattle.nm_types.specs.declared.slot.SlotWrite.{SlotWrite}
 use Rattle.nm_types.specs.Positions.{RingState, IsRing, dist, step_on, pending_slots, is_user_slot}
 use Rattle.nm_types.specs.Slots.{SlotState}
 use Rattle.nm_types.specs.SyncChecks.{ring_refusal, contains_index}
-use Rattle.nm_types.specs.OwnPorts.{OwnRing, OwnPort, OwnState, bytes_at, with_bytes, ring_on, ring_at, buffers_in, held_if, named_of, slot_in, with_slot, index_of, blank_slot, port_if, with_ring, with_ring_on, port_with_id}
-use Rattle.nm_types.specs.OwnEdits.{SlotPlace, ring_at_positions, with_head, with_cur, with_positions, with_all_back, user_slot_at, with_user_slot, slot_written, with_written_slot, with_slot_field, slot_of_place, slot_naming, with_two_slots, with_slots_swapped, has_slots, slot_with_part, ring_with_part, with_written, with_part_on, with_part, with_parts, with_frame, ring_forwarding, sent_slot, with_slot_forwarded, with_heads_forwarded, with_slots_forwarded, frame_slots, can_forward, with_next_forwarded, with_forwarded, extra_number, with_head_of_chain, link_in, with_extra_link_in, with_extra_link}
+use Rattle.nm_types.specs.OwnPorts.{OwnRing, OwnPort, OwnState, bytes_at, with_bytes, ring_on, ring_at, buffers_in, held_if, named_of, slot_in, with_slot, index_of, blank_slot, port_if, with_ring, with_ring_on, port_with_id, is_whole_at}
+use Rattle.nm_types.specs.OwnEdits.{SlotPlace, ring_at_positions, with_head, with_cur, with_positions, with_all_back, user_slot_at, with_user_slot, slot_written, with_written_slot, with_slot_field, slot_of_place, slot_naming, with_two_slots, with_slots_swapped, has_slots, slot_with_part, ring_with_part, with_written, with_part_on, with_part, with_parts, with_frame, ring_forwarding, sent_slot, with_slot_forwarded, with_heads_forwarded, with_slots_forwarded, frame_slots, can_forward, with_next_forwarded, frames_forwarded, with_forwarded, extra_number, with_head_of_chain, link_in, with_extra_link_in, with_extra_link}
 use Rattle.nm_types.specs.Parts.{slots_of_length, parts_of}
 use Rattle.nm_types.proofs.PartLemmas.{length-parts}
 use Rattle.nm_types.proofs.RingSteps.{dist-below, dist-add, dist_split, step_on-below, step_on-dist}
@@ -494,11 +494,11 @@ slots-forwarded (suc count) from to s sound h = by (ring_at Rx s from) (slots-fo
         subst (λ (u : OwnState). Edited s (with_slots_forwarded count from to u)) (sym is)
         (edited-twice s t (with_slots_forwarded count from to t) one.0 (others t one.0.sound one.1))
 
-forward-edited : (whole : Bool) (count from to : ℕ) (s : OwnState) → IsSound s → Edited s (with_forwarded whole count from to s)
+forward-edited : (whole : Bool) (count from to : ℕ) (s : OwnState) → IsSound s → Edited s (frames_forwarded whole count from to s)
 forward-edited whole zero from to s sound = edited-same s sound
 forward-edited whole (suc count) from to s sound = by (ring_at Rx s from) (ring_at Tx s to) refl (forward-edited whole count from to)
   where
-    by : (a b : Option OwnRing) → ring_at Tx s to ≡ b → ((t : OwnState) → IsSound t → Edited t (with_forwarded whole count from to t)) → Edited s (with_next_forwarded (with_forwarded whole count from to) whole from to s a b)
+    by : (a b : Option OwnRing) → ring_at Tx s to ≡ b → ((t : OwnState) → IsSound t → Edited t (frames_forwarded whole count from to t)) → Edited s (with_next_forwarded (frames_forwarded whole count from to) whole from to s a b)
     by None b at others = edited-same s sound
     by (Some rx) None at others = edited-same s sound
     by (Some rx) (Some tx) at others = on (can_forward whole rx tx) refl
@@ -506,7 +506,7 @@ forward-edited whole (suc count) from to s sound = by (ring_at Rx s from) (ring_
         n : ℕ
         n = frame_slots rx
 
-        on : (b : Bool) → can_forward whole rx tx ≡ b → Edited s (cond b (with_forwarded whole count from to (with_slots_forwarded n from to s)) s)
+        on : (b : Bool) → can_forward whole rx tx ≡ b → Edited s (cond b (frames_forwarded whole count from to (with_slots_forwarded n from to s)) s)
         on true can =
             let some = and_parts (nat_lt 0 n) (has_slots n rx && (has_slots n tx && (not whole || n == 1))) can in
             let here = and_parts (has_slots n rx) (has_slots n tx && (not whole || n == 1)) some.1 in
@@ -514,7 +514,7 @@ forward-edited whole (suc count) from to s sound = by (ring_at Rx s from) (ring_
             let ahead = has-ahead n tx (ring-sound s to tx sound at) there.0 in
             let first = slots-forwarded n from to s sound (record { ring = tx; there = at; ahead = ahead }) in
             let t = with_slots_forwarded n from to s in
-            edited-twice s t (with_forwarded whole count from to t) first (others t first.sound)
+            edited-twice s t (frames_forwarded whole count from to t) first (others t first.sound)
         on false can = edited-same s sound
 
 pub edits-keep : EditsKeepSides
@@ -528,7 +528,7 @@ edits-keep = record {
   slots_swapped = λ announce here there. edited-kept (with_slots_swapped announce here there) (swap-edited announce here there);
   written = λ idx bytes. edited-kept (with_written idx bytes) (written-edited idx bytes);
   frame = λ id bytes. edited-kept (with_frame id bytes) (frame-edited id bytes);
-  forwarded = λ whole count from to. edited-kept (with_forwarded whole count from to) (forward-edited whole count from to);
+  forwarded = λ count from to. edited-kept (with_forwarded count from to) (λ s sound. forward-edited (is_whole_at s to) count from to s sound);
   head_of_chain = λ id idx. edited-kept (with_head_of_chain id idx) (chain-edited id idx);
   extra_link = λ id from to. edited-kept (with_extra_link id from to) (link-edited id from to);
 }

@@ -1,5 +1,5 @@
 -- The numbers of a refused sync fit their fields.
-use Rattle.std.proofs.Common.{ℕ, zero, suc, ◌+◌, ◌^◌, ◌<◌, ◌≤◌, ◌≡◌, Bool, true, false, cond, not, ◌&&◌, ◌==◌, nat_le, nat_lt, List, [], ◌∷◌, ◌++◌, map, get_or, flat_map, Option, Some, None, option_map, refl, arith}
+use Rattle.std.proofs.Common.{ℕ, zero, suc, ◌+◌, ◌^◌, ◌<◌, ◌≤◌, ◌≡◌, Bool, true, false, cond, not, ◌&&◌, ◌==◌, nat_le, nat_lt, List, [], ◌∷◌, ◌++◌, length, map, get_or, flat_map, Option, Some, None, option_map, refl, arith}
 use Rattle.std.specs.List.{AllByRecursion as Each}
 use Rattle.std.proofs.lemmas.Bool.{and_parts, leb-true}
 use Rattle.std.proofs.lemmas.Bool.Decides.{nat_tests}
@@ -11,7 +11,7 @@ use Rattle.nm_types.specs.declared.fault.SyncFault.{SyncFault}
 use Rattle.nm_types.specs.SyncFaults.{ring_sync_fault, slot_sync_fault}
 use Rattle.nm_types.specs.Positions.{IsRing, FitsRing, dist, step_on, pushed_slots}
 use Rattle.nm_types.specs.Slots.{SlotState, has_flag, indirect, goes_on}
-use Rattle.nm_types.specs.SyncChecks.{is_tx, is_beyond, is_index_out, is_unannounced, slot_refusal, slots_refusal, first_refusal, seen_of, begun_after}
+use Rattle.nm_types.specs.SyncChecks.{is_tx, is_beyond, is_index_out, is_unannounced, slot_refusal, slots_refusal, first_refusal, is_closing, seen_of, begun_after}
 use Rattle.nm_types.specs.OwnPorts.{OwnRing, OwnPort, named_of, blank_slot, buffer_in, slot_in, index_of, pushed_at, pushed_in, is_whole}
 use Rattle.nm_types.proofs.RingChecks.{Fits-from_beyond}
 use Rattle.nm_types.proofs.RingSteps.{step_on-below}
@@ -60,7 +60,7 @@ slots-fit : (sd : Side) (whole : Bool) (pool : ℕ) (r : OwnRing) (named earlier
 slots-fit sd whole pool r named earlier begun [] all = refl
 slots-fit sd whole pool r named earlier begun (at ∷ ats) all =
     let x = pushed_at sd r at in
-    let seen = seen_of whole pool named earlier begun (map (pushed_at sd r) ats) x in
+    let seen = seen_of (is_closing whole begun (length (map (pushed_at sd r) ats))) pool named earlier x in
     first-fits (option_map slot_sync_fault (slot_refusal sd seen at x.slot)) (slots_refusal sd whole pool named (earlier ++ x.slot.buf_idx ∷ []) (begun_after begun x.slot) (map (pushed_at sd r) ats))
     (slot-fits at x.slot.buf_idx x.was x.slot.len (is_tx sd && has_flag indirect x.slot) (is_index_out seen.top x.slot.buf_idx) (not seen.held) seen.doubled (is_unannounced seen.was x.slot) (is_tx sd && nat_lt 2048 x.slot.len) (is_tx sd && (seen.closing && goes_on x.slot)) all.0)
     (slots-fit sd whole pool r named (earlier ++ x.slot.buf_idx ∷ []) (begun_after begun x.slot) ats all.1)

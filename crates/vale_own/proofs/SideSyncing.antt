@@ -1,5 +1,5 @@
 -- The syncs of a side are asks that its session may make.
-use Rattle.std.proofs.Common.{ℕ, zero, suc, ◌+◌, ◌<◌, ◌≤◌, ◌≡◌, Bool, true, false, cond, ◌&&◌, ◌||◌, nat_le, nat_lt, List, [], ◌∷◌, ◌++◌, map, take, length, Option, Some, None, is_some, option_map, refl, sym, ◌∙◌, ap, arith, inl, inr}
+use Rattle.std.proofs.Common.{ℕ, zero, suc, ◌+◌, ◌<◌, ◌≤◌, ◌≡◌, Bool, true, false, cond, ◌&&◌, ◌||◌, nat_le, nat_lt, List, [], ◌∷◌, map, take, length, Option, Some, None, is_some, refl, sym, ◌∙◌, ap, arith, inl, inr}
 use Rattle.std.specs.List.{AllByRecursion as Each, list_all}
 use Rattle.std.proofs.lemmas.Bool.{cases_Bool, and_parts, eqb-true}
 use Rattle.std.proofs.lemmas.Bool.Decides.{nat_tests}
@@ -7,25 +7,21 @@ use Rattle.std.proofs.lemmas.List.{length-map}
 use Rattle.nm_types.specs.Limits.{most_batch, most_extra, most_ring}
 use Rattle.nm_types.proofs.Tests.{less_true}
 use Rattle.nm_types.specs.Frames.{size_of_frames}
-use Rattle.nm_types.specs.Sendable.{fits_buffer, is_sendable}
+use Rattle.nm_types.specs.Sendable.{is_sendable}
 use Rattle.nm_types.specs.declared.name.Kind.{Kind}
 use Rattle.nm_types.specs.declared.name.Kind.TheVariants.{Vale, Master, Slave, Monitor}
 use Rattle.nm_types.specs.Names.{is_name, is_switch_port_name, is_pipe_name, is_monitor_name, is_switch_port_kind, is_pipe_kind, is_monitor_kind, kind_of}
 use Rattle.nm_types.specs.declared.id.Side.{Side}
 use Rattle.nm_types.specs.declared.id.Side.TheVariants.{Tx, Rx}
-use Rattle.nm_types.specs.declared.refusal.RingFault.{RingFault}
-use Rattle.nm_types.specs.declared.refusal.RingFault.TheVariants.{HeadOut, CurOut}
-use Rattle.nm_types.specs.declared.refusal.SlotFault.{SlotFault}
-use Rattle.nm_types.specs.declared.refusal.SlotFault.TheVariants.{Indirect, IndexOut, NotHeld, Doubled, Unannounced, LongLen, Fragment}
 use Rattle.nm_types.specs.declared.fault.SyncFault.{SyncFault}
-use Rattle.nm_types.specs.SyncFaults.{ring_sync_fault, slot_sync_fault, is_check_fault}
+use Rattle.nm_types.specs.SyncFaults.{is_check_fault}
 use Rattle.nm_types.specs.Positions.{dist, pushed_slots}
-use Rattle.nm_types.specs.Slots.{Pushed, frame_at, pushed_frames}
-use Rattle.nm_types.specs.SyncChecks.{ring_refusal, slot_refusal, slots_refusal, first_refusal, seen_of, begun_after}
+use Rattle.nm_types.specs.Slots.{Pushed, pushed_frames}
 use Rattle.nm_types.specs.OwnPorts.{OwnRing, OwnPort, OwnState, Arrival, bytes_at, named_of, slot_in, port_with_id, pushed_at, pushed_in, is_whole, refusal_in}
 use Rattle.nm_types.specs.OwnSyncs.{offered_slots, own_after_receive, own_after_put}
 use Rattle.nm_types.proofs.RingSteps.{dist-below, length-slots_from}
 use Rattle.nm_types.proofs.Sizes.{length-size}
+use Rattle.nm_types.proofs.CheckFaults.{refusal-is_check}
 use Rattle.nm_types.proofs.JoinedFrames.{passed-sent}
 use Rattle.vale_entry.specs.declared.entry.Ask.TheVariants.{Send, Sync, Put, Get}
 use Rattle.vale_entry.specs.declared.entry.Entry.{Entry}
@@ -44,7 +40,7 @@ use Rattle.vale_own.specs.Side.{is_shut, size_if, port_of_side, IsPending, IsSou
 use Rattle.vale_own.specs.SideAsks.{HasSide, RefusalFits, TransmitMayBeAsked, ReceiveMayBeAsked}
 use Rattle.vale_own.proofs.SidePlaces.{tx-sound}
 use Rattle.vale_own.proofs.SideExchange.{sync-fits, sync-passes}
-use Rattle.vale_own.proofs.SideOffers.{each-short, exchanged-ring, offered-pending, total-few}
+use Rattle.vale_own.proofs.SideOffers.{exchanged-ring, offered-pending, total-few}
 use Rattle.vale_own.proofs.SideMoves.{Moved}
 use Rattle.vale_own.proofs.SideReceives.{back-few, received-moved}
 use Rattle.vale_own.proofs.SidePuts.{offered-count, put-moved}
@@ -63,38 +59,8 @@ switch-or-monitor name named not-pipe = by (kind_of name) named not-pipe
     by (Some Monitor) some other = refl
 
 -- what refuses a sync is one of the checks
-ring-check : (o : Option RingFault) (fault : SyncFault) → option_map ring_sync_fault o ≡ Some fault → is_check_fault fault ≡ true
-ring-check None fault e = absurd cc
-ring-check (Some (HeadOut head from to)) fault e = let is : ring_sync_fault (HeadOut head from to) ≡ fault = cc in ap is_check_fault (sym is)
-ring-check (Some (CurOut cur from to)) fault e = let is : ring_sync_fault (CurOut cur from to) ≡ fault = cc in ap is_check_fault (sym is)
-
-slot-check : (o : Option SlotFault) (fault : SyncFault) → option_map slot_sync_fault o ≡ Some fault → is_check_fault fault ≡ true
-slot-check None fault e = absurd cc
-slot-check (Some f) fault e = let is : slot_sync_fault f ≡ fault = cc in ap is_check_fault (sym is) ∙ one f
-  where
-    one : (g : SlotFault) → is_check_fault (slot_sync_fault g) ≡ true
-    one (Indirect at) = refl
-    one (IndexOut at idx) = refl
-    one (NotHeld at idx) = refl
-    one (Doubled at idx) = refl
-    one (Unannounced at idx was) = refl
-    one (LongLen at len) = refl
-    one (Fragment at) = refl
-
-first-check : (first later : Option SyncFault) (fault : SyncFault) → (first ≡ Some fault → is_check_fault fault ≡ true) → (later ≡ Some fault → is_check_fault fault ≡ true) → first_refusal first later ≡ Some fault → is_check_fault fault ≡ true
-first-check None later fault one two e = two e
-first-check (Some f) later fault one two e = one e
-
-slots-check : (side : Side) (whole : Bool) (pool : ℕ) (named earlier : List ℕ) (begun : ℕ) (pushed : List Pushed) (fault : SyncFault) → slots_refusal side whole pool named earlier begun pushed ≡ Some fault → is_check_fault fault ≡ true
-slots-check side whole pool named earlier begun [] fault e = absurd cc
-slots-check side whole pool named earlier begun (x ∷ pushed) fault e =
-    first-check (option_map slot_sync_fault (slot_refusal side (seen_of whole pool named earlier begun pushed x) x.at x.slot)) (slots_refusal side whole pool named (earlier ++ x.slot.buf_idx ∷ []) (begun_after begun x.slot) pushed) fault
-    (λ first. slot-check (slot_refusal side (seen_of whole pool named earlier begun pushed x) x.at x.slot) fault first) (λ later. slots-check side whole pool named (earlier ++ x.slot.buf_idx ∷ []) (begun_after begun x.slot) pushed fault later) e
-
 sync-check : (side : Side) (s : OwnState) (p : OwnPort) (r : OwnRing) (fault : SyncFault) → refusal_in side s p r ≡ Some fault → is_check_fault fault ≡ true
-sync-check side s p r fault e =
-    first-check (option_map ring_sync_fault (ring_refusal r.ring r.ring.head r.ring.cur)) (slots_refusal side (is_whole p) s.pool (named_of s) [] 0 (pushed_in side r)) fault
-    (λ first. ring-check (ring_refusal r.ring r.ring.head r.ring.cur) fault first) (λ later. slots-check side (is_whole p) s.pool (named_of s) [] 0 (pushed_in side r) fault later) e
+sync-check side s p r fault e = refusal-is_check side (is_whole p) s.pool (named_of s) r.ring (pushed_in side r) fault e
 
 fault-fits : (o : Option SyncFault) (fault : SyncFault) → RefusalFits o → o ≡ Some fault → fits_fault fault ≡ true
 fault-fits None fault fits e = absurd cc

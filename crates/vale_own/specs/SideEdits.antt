@@ -24,6 +24,6 @@ pub record EditsKeepSides : Type 0 where
   pub slots_swapped : (announce : Bool) (here there : SlotPlace) → KeepsSides (with_slots_swapped announce here there)
   pub written : (idx : ℕ) (bytes : List ℕ) → KeepsSides (with_written idx bytes)
   pub frame : (id : ℕ) (bytes : List ℕ) → KeepsSides (with_frame id bytes)
-  pub forwarded : (whole : Bool) (count from to : ℕ) → KeepsSides (with_forwarded whole count from to)
+  pub forwarded : (count from to : ℕ) → KeepsSides (with_forwarded count from to)
   pub head_of_chain : (id idx : ℕ) → KeepsSides (with_head_of_chain id idx)
   pub extra_link : (id from to : ℕ) → KeepsSides (with_extra_link id from to)

@@ -1,5 +1,5 @@
 -- The wants of a batch are its offers, after every legal history.
-use Rattle.std.proofs.Common.{ℕ, zero, suc, Bool, true, false, not, ◌≡◌, ◌+◌, ◌<◌, List, [], ◌∷◌, length, map, filter, find, get_or, slice_get, Option, Some, None, is_some, refl, sym, ◌∙◌, ap, subst, arith, ◌==◌, ◌&&◌, bytes_eq, count_by, nat_le}
+use Rattle.std.proofs.Common.{ℕ, Bool, true, false, not, ◌≡◌, ◌+◌, ◌<◌, List, [], ◌∷◌, length, map, filter, find, slice_get, Option, Some, None, is_some, refl, sym, ◌∙◌, ap, subst, arith, ◌==◌, ◌&&◌, bytes_eq, count_by, nat_le}
 use Rattle.std.proofs.lemmas.List.{length-map}
 use Rattle.std.specs.List.{AllByRecursion as Each, list_any, list_all}
 use Rattle.std.proofs.lemmas.List.Elements.{All-from_recursion}
@@ -9,13 +9,13 @@ use Rattle.nm_types.specs.Frames.{Frame, slots_of, size_of_frames}
 use Rattle.nm_types.specs.Sides.{watches_side}
 use Rattle.nm_types.specs.declared.id.Side.TheVariants.{Tx, Rx}
 use Rattle.nm_types.specs.Names.{switch_of, kind_of, is_switch_port_name, is_monitor_name, is_switch_port_kind, is_monitor_kind}
-use Rattle.nm_types.specs.Sendable.{is_sendable, is_frame}
+use Rattle.nm_types.specs.Sendable.{IsFrame, is_sendable, is_frame}
 use Rattle.nm_types.specs.declared.name.Kind.{Kind}
 use Rattle.nm_types.specs.declared.name.Kind.TheVariants.{Vale}
 use Rattle.nm_types.specs.declared.id.PortId.{PortId}
 use Rattle.vale_learn.specs.AddressTable.{Entries}
 use Rattle.vale_batch.specs.declared.looking.Looked.{Looked}
-use Rattle.vale_batch.specs.Looking.{looked_up_batch, IsFrame}
+use Rattle.vale_batch.specs.Looking.{looked_up_batch}
 use Rattle.vale_batch.specs.Wants.{Wanted, wants_of, IsRising, port_number, is_lone as is_lone_looked}
 use Rattle.vale_entry.specs.declared.entry.Entry.{Entry}
 use Rattle.vale_entry.specs.World.{Port, Watch as Watcher, Offer, is_open, is_settled, monitor_id, transmit_monitor, receive_monitor}
@@ -41,6 +41,7 @@ use Rattle.vale_parts.specs.Batches.{IsOfferOf, AreOffersOf, AreLookedAs, want_o
 use Rattle.vale_parts.specs.BatchLaws.{IsSender, BatchesAreNamed, LoneFramesAreCounted, SentWantsAreOffers, GivenWantsAreOffers, PutWantsAreOffers, DestsAreWanted, OpenPortsRise, SendableCanBeLookedUp, SendsAreReplied, ReadsAreReplied, PutsAreReplied, wants_at}
 use Rattle.vale_parts.proofs.OpenPorts.{some_is_any}
 use Rattle.vale_entry.proofs.PairsOfSwitch.{pairs-of_switch}
+use Rattle.vale_entry.proofs.Rising.{rise-increases}
 use Rattle.vale_parts.proofs.Lookups.{batch_named, frames_named, lone_counted, NamesOpen, NamesOpenAt, named_open}
 use Rattle.vale_parts.proofs.WantedFrames.{wants_are, none-wanted, all-wanted}
 use Rattle.vale_parts.proofs.WantOffers.{IsPlain, IsOther, IsItself, plain, monitored}
@@ -278,24 +279,6 @@ dests_are_wanted frames (w ∷ ws) (o ∷ os) all =
 
 -- ---- the open ports of a switch rise
 
-rise_at : (low : ℕ) (ns : List ℕ) (high j d : ℕ) → Rise low ns high → j < length ns → low < get_or ns j d
-rise_at low [] high j d r inside = absurd (omega arith)
-rise_at low (n ∷ ns) high zero d r inside = r.0
-rise_at low (n ∷ ns) high (suc j) d r inside =
-    let shorter : j < length ns = omega arith in
-    let above = rise_at n ns high j d r.1 shorter in
-    let first = r.0 in
-    omega (arith, above, first)
-
-rising_from : (low : ℕ) (ns : List ℕ) (high : ℕ) → Rise low ns high → IsRising ns
-rising_from low [] high r = λ i j d before inside. absurd (omega arith)
-rising_from low (n ∷ ns) high r = λ i j d before inside. by_place i j d before inside (rising_from n ns high r.1)
-  where
-    by_place : (i j d : ℕ) → i < j → j < length (n ∷ ns) → IsRising ns → get_or (n ∷ ns) i d < get_or (n ∷ ns) j d
-    by_place i zero d before inside rest = absurd (omega arith)
-    by_place zero (suc j) d before inside rest = rise_at n ns high j d r.1 (omega arith)
-    by_place (suc i) (suc j) d before inside rest = rest i j d (omega arith) (omega arith)
-
 numbers_are : (ports : List Port) → map port_number (map id_of_port ports) ≡ map number_of ports
 numbers_are [] = refl
 numbers_are (p ∷ ps) = ap (λ (ns : List ℕ). p.id ∷ ns) (numbers_are ps)
@@ -304,7 +287,7 @@ pub open_ports_rise : OpenPortsRise
 open_ports_rise pool h switch =
     let w = world_of pool h in
     let numbers = numbers_are (filter (is_open_on switch) w.ports) in
-    subst IsRising (sym numbers) (rising_from 0 (map number_of (filter (is_open_on switch) w.ports)) w.entry_count (rise-filter number_of (is_open_on switch) 0 w.ports w.entry_count (world-numbered pool h).ports_rise))
+    subst IsRising (sym numbers) (λ i j d before inside. rise-increases 0 (map number_of (filter (is_open_on switch) w.ports)) w.entry_count i j d (rise-filter number_of (is_open_on switch) 0 w.ports w.entry_count (world-numbered pool h).ports_rise) before inside)
 
 -- ---- what may be sent can be looked up
 

@@ -4,10 +4,10 @@ use Rattle.nm_types.specs.Limits.{buckets, most_batch}
 use Rattle.nm_types.specs.Addresses.{is_short}
 use Rattle.nm_types.specs.Frames.{Frame}
 use Rattle.nm_types.specs.Names.{switch_of}
-use Rattle.nm_types.specs.Sendable.{is_sendable}
+use Rattle.nm_types.specs.Sendable.{IsFrame, is_sendable}
 use Rattle.nm_types.specs.declared.id.PortId.{PortId}
 use Rattle.vale_learn.specs.AddressTable.{Entries}
-use Rattle.vale_batch.specs.Looking.{looked_up_batch, IsFrame}
+use Rattle.vale_batch.specs.Looking.{looked_up_batch}
 use Rattle.vale_batch.specs.Wants.{Wanted, wants_of, is_lone as is_lone_looked, IsRising, port_number}
 use Rattle.vale_entry.specs.declared.entry.Entry.{Entry}
 use Rattle.vale_entry.specs.declared.entry.Reply.TheVariants.{Offered}

@@ -1,5 +1,5 @@
 -- What the syncs of a user make of its tasks.
-use Rattle.std.proofs.Common.{ℕ, ◌≡◌, append_assoc, Bool, true, false, cond, List, [], ◌∷◌, ◌++◌, Option, Some, None, option_map, Result, Ok, Err, IfOk, IfErr, IsSome, refl, sym, ◌∙◌, ap, subst}
+use Rattle.std.proofs.Common.{ℕ, ◌≡◌, append_assoc, Bool, true, false, cond, List, [], ◌∷◌, ◌++◌, Option, Some, None, option_map, Result, Ok, Err, IfOk, IfErr, IsSome, refl, sym, ◌∙◌, ap, subst, length}
 use Rattle.std.proofs.lemmas.Option.{same_Some}
 use Rattle.std.specs.Prelude.{◌||◌, not, option_and_then}
 use Rattle.std.specs.Option.{option_map_or}
@@ -98,12 +98,12 @@ module _ (own : OwnState) (name : List ℕ) (port : PortId) (p : PortAt own name
       by None is = refl
       by (Some x) is = absurd cc
 
-  pub room-by : (bytes : List ℕ) → has_room_at own name bytes ≡ has_room own port.0 bytes
+  pub room-by : (bytes : List ℕ) → has_room_at own name bytes ≡ has_room own port.0 (length bytes)
   room-by bytes =
-      ap (λ (o : Option OwnPort). option_map_or (λ (q : OwnPort). has_room own q.id.0 bytes) o false) p.named ∙ ap (λ (id : PortId). has_room own id.0 bytes) p.id_is
+      ap (λ (o : Option OwnPort). option_map_or (λ (q : OwnPort). has_room own q.id.0 (length bytes)) o false) p.named ∙ ap (λ (id : PortId). has_room own id.0 (length bytes)) p.id_is
 
 pub room-away : (own : OwnState) (name bytes : List ℕ) → option_map id-of (port_with_name own name) ≡ None → has_room_at own name bytes ≡ false
-room-away own name bytes none = ap (λ (o : Option OwnPort). option_map_or (λ (q : OwnPort). has_room own q.id.0 bytes) o false) (none-of (port_with_name own name) none)
+room-away own name bytes none = ap (λ (o : Option OwnPort). option_map_or (λ (q : OwnPort). has_room own q.id.0 (length bytes)) o false) (none-of (port_with_name own name) none)
 
 pub record Sender (own : OwnState) (name : List ℕ) (port : PortId) : Type 0 where
   pub of : PortAt own name port
@@ -305,7 +305,7 @@ module _ (p q : PlayerState) (here : IsThere None p.session) (there : IsThere No
 
 -- where the sync leaves its ring, the name tells the port's room behind it
 pub needs-at : (p q : PlayerState) → IsThere None p.session → IsThere None q.session → q ≡ record p { session = q.session } → (name : List ℕ) (port : PortId) → Sender p.session.own name port → sender_named q.session.own name ≡ Some port
-    → (bytes : List ℕ) (end : SyncEnd) (room : Bool) → has_room p.session.own port.0 bytes ≡ false → has_room q.session.own port.0 bytes ≡ room → EndsTx p.session q.session port.0 end
+    → (bytes : List ℕ) (end : SyncEnd) (room : Bool) → has_room p.session.own port.0 (length bytes) ≡ false → has_room q.session.own port.0 (length bytes) ≡ room → EndsTx p.session q.session port.0 end
     → NeedsNoneOrEnds p q (PutFrame name bytes) (leaves_room end room)
 needs-at p q here there same name port sender named bytes end room full is e =
     let behind = sender-found q.session.own name port there.side.sound named in

@@ -1,18 +1,10 @@
 -- What a line that makes no call changes, by the ports that it names.
-use Rattle.std.proofs.Common.{ℕ, ◌≡◌, Bool, false, not, bytes_eq, List, Option, Some, None, option_map, refl, sym, ◌∙◌, ap, subst}
-use Rattle.std.specs.Option.{option_map_or}
-use Rattle.std.proofs.lemmas.Option.{same_Some}
-use Rattle.std.proofs.lemmas.Slice.Eq.{bytes_eq-Decides}
+use Rattle.std.proofs.Common.{ℕ, ◌≡◌, not, List, Option, Some, None, option_map, refl, ◌∙◌, ap}
 use Rattle.nm_types.specs.declared.id.PortId.{PortId}
-use Rattle.nm_types.specs.Names.{is_pipe_name}
-use Rattle.nm_types.specs.OwnPorts.{OwnPort, OwnState, is_whole, port_with_id, port_with_name}
+use Rattle.nm_types.specs.OwnPorts.{OwnPort, OwnState, port_with_name}
 use Rattle.nm_types.specs.OwnEdits.{with_positions, with_all_back, with_slots_swapped, with_forwarded, with_extra_link}
-use Rattle.nm_own.specs.Acts.{is_whole_at}
-use Rattle.vale_entry.proofs.ListLaws.{place-of}
-use Rattle.vale_own.specs.Side.{IsSound}
 use Rattle.vale_script.specs.declared.script.Act.TheVariants.{Fwd}
 use Rattle.vale_replay.specs.Edits.{at_port, change_found, changed_by, poked}
-use Rattle.vale_replay.proofs.TurnSides.{by-id}
 use Rattle.vale_player.specs.Acts.{NamedActsEdit, ActsBetweenEdit, UnnamedActsChangeNothing, place}
 use Rattle.vale_player.proofs.Changes.{changed-at, id-of}
 
@@ -36,7 +28,7 @@ both-found own name other p q change one two = found own name p (λ id. at_port 
 
 pub acts-between : ActsBetweenEdit
 acts-between own name other p q one two = record {
-  forward = λ count. both-found own name other p q (with_forwarded (is_pipe_name other) count) one two;
+  forward = λ count. both-found own name other p q (with_forwarded count) one two;
   swap = λ side other_side at other_at quiet. both-found own name other p q (λ id other_id. with_slots_swapped (not quiet) (place side id at) (place other_side other_id other_at)) one two;
 }
 
@@ -51,28 +43,16 @@ unnamed-acts own name none = record {
   poke = λ side at field value. missed own name (poked side at field value) none;
   move = λ side head cur. missed own name (λ id. with_positions side id head cur) none;
   extra = λ from to. missed own name (λ id. with_extra_link id from to) none;
-  forward = λ to count. missed own name (λ id. at_port to (with_forwarded (is_pipe_name to) count id)) none;
-  forward_to = λ from count. other-missed own name (port_with_name own from) (with_forwarded (is_pipe_name name) count) none;
+  forward = λ to count. missed own name (λ id. at_port to (with_forwarded count id)) none;
+  forward_to = λ from count. other-missed own name (port_with_name own from) (with_forwarded count) none;
   swap = λ other side other_side at other_at quiet. missed own name (λ id. at_port other (λ other_id. with_slots_swapped (not quiet) (place side id at) (place other_side other_id other_at))) none;
   swap_with = λ one side other_side at other_at quiet. other-missed own name (port_with_name own one) (λ id other_id. with_slots_swapped (not quiet) (place side id at) (place other_side other_id other_at)) none;
 }
 
 -- ---- frames that are forwarded
 
--- a port of a name is a pipe's end if the name is one's
-whole-is : (own : OwnState) (name : List ℕ) (port : PortId) → IsSound own → option_map id-of (port_with_name own name) ≡ Some port → is_whole_at own port.0 ≡ is_pipe_name name
-whole-is own name port sound is = by (port_with_name own name) refl is
-  where
-    by : (found : Option OwnPort) → port_with_name own name ≡ found → option_map id-of found ≡ Some port → is_whole_at own port.0 ≡ is_pipe_name name
-    by None named e = absurd cc
-    by (Some p) named e =
-        let here : port_with_id own port.0 ≡ Some p = subst (λ (id : PortId). port_with_id own id.0 ≡ Some p) (same_Some p.id port e) (by-id own name p sound named) in
-        let same : name ≡ p.name = (bytes_eq-Decides name p.name).0 (place-of (λ (q : OwnPort). bytes_eq name q.name) own.ports p named).passes in
-        ap (λ (o : Option OwnPort). option_map_or is_whole o false) here ∙ ap is_pipe_name (sym same)
-
-pub forwards : (own : OwnState) (from to : List ℕ) (a b : PortId) (count : ℕ) → IsSound own → option_map id-of (port_with_name own from) ≡ Some a → option_map id-of (port_with_name own to) ≡ Some b
-    → changed_by (Fwd from to count) own ≡ with_forwarded (is_whole_at own b.0) count a.0 b.0 own
-forwards own from to a b count sound one two =
-    changed-at own from a (λ (id : ℕ). at_port to (with_forwarded (is_pipe_name to) count id)) one
-    ∙ (changed-at own to b (with_forwarded (is_pipe_name to) count a.0) two
-    ∙ ap (λ (whole : Bool). with_forwarded whole count a.0 b.0 own) (sym (whole-is own to b sound two)))
+pub forwards : (own : OwnState) (from to : List ℕ) (a b : PortId) (count : ℕ) → option_map id-of (port_with_name own from) ≡ Some a → option_map id-of (port_with_name own to) ≡ Some b
+    → changed_by (Fwd from to count) own ≡ with_forwarded count a.0 b.0 own
+forwards own from to a b count one two =
+    changed-at own from a (λ (id : ℕ). at_port to (with_forwarded count id)) one
+    ∙ changed-at own to b (with_forwarded count a.0) two

@@ -1,5 +1,5 @@
 -- Copies of one frame that a line puts, where there is room for them and where there is no ring.
-use Rattle.std.proofs.Common.{ℕ, zero, suc, ◌+◌, ◌-◌, ◌≤◌, ◌≡◌, Bool, true, false, cond, List, [], ◌∷◌, ◌++◌, replicate, Option, Some, None, option_map, refl, sym, ◌∙◌, ap, subst, arith, append_assoc}
+use Rattle.std.proofs.Common.{ℕ, zero, suc, ◌+◌, ◌-◌, ◌≤◌, ◌≡◌, Bool, true, false, cond, List, [], ◌∷◌, ◌++◌, replicate, Option, Some, None, option_map, refl, sym, ◌∙◌, ap, subst, arith, append_assoc, length}
 use Rattle.std.specs.Prelude.{◌==◌, filter, option_and_then}
 use Rattle.std.specs.Option.{option_map_or}
 use Rattle.nm_types.specs.declared.id.PortId.{PortId}
@@ -58,7 +58,7 @@ module _ (p : PlayerState) (name bytes : List ℕ) (port : PortId) (here : IsThe
   pub copies-named : (count : ℕ) → sender_named (behind_copies count).session.own name ≡ Some port
   copies-named count = copies-names count port.0 bytes p.session.own name ∙ named
 
-  one-put : (count : ℕ) → has_room (with_copies count port.0 bytes p.session.own) port.0 bytes ≡ true → Does (behind_copies count) (behind_copies (suc count)) (task ∷ [])
+  one-put : (count : ℕ) → has_room (with_copies count port.0 bytes p.session.own) port.0 (length bytes) ≡ true → Does (behind_copies count) (behind_copies (suc count)) (task ∷ [])
   one-put count room =
       let q = behind_copies count in
       let sound = (copies-there count).side.sound in
@@ -82,7 +82,7 @@ module _ (p : PlayerState) (name bytes : List ℕ) (port : PortId) (here : IsThe
       let all : count + 0 ≡ count = omega arith in
       subst (λ (n : ℕ). Does p (behind_copies count) (replicate n task)) all (copies-lead count 0 room)
 
-pub some-copies : (wanted count id : ℕ) (bytes : List ℕ) (s : OwnState) → AreCopies wanted count id bytes s → has_room s id bytes ≡ true → 1 ≤ wanted → 1 ≤ count
+pub some-copies : (wanted count id : ℕ) (bytes : List ℕ) (s : OwnState) → AreCopies wanted count id bytes s → has_room s id (length bytes) ≡ true → 1 ≤ wanted → 1 ≤ count
 some-copies wanted zero id bytes s copies room some = absurd (let full = copies.full (omega (arith, some)) in let bad : true ≡ false = sym room ∙ full in cc)
 some-copies wanted (suc count) id bytes s copies room some = omega arith
 

@@ -1,14 +1,14 @@
 -- The frames that a receive sync has brought: as many as it says, and no longer than frames are.
-use Rattle.std.proofs.Common.{ℕ, ◌-◌, ◌≡◌, true, false, Bool, cond, ◌==◌, List, [], ◌∷◌, map, take, drop, length, slice_get, Option, Some, None, refl, sym, ◌∙◌, ap, subst}
+use Rattle.std.proofs.Common.{ℕ, ◌-◌, ◌≡◌, true, false, Bool, cond, ◌==◌, List, [], ◌∷◌, map, take, length, slice_get, Option, Some, None, refl, sym, ◌∙◌, ap, subst}
 use Rattle.std.specs.Prelude.{◌&&◌, nat_le, option_and_then}
 use Rattle.std.specs.List.{AllByRecursion as Each, list_all}
 use Rattle.std.specs.Option.{option_map_or}
-use Rattle.std.proofs.lemmas.List.{length-map, take-append-drop}
+use Rattle.std.proofs.lemmas.List.{length-map}
 use Rattle.nm_types.specs.declared.id.Side.TheVariants.{Rx}
 use Rattle.nm_types.specs.Frames.{Frame}
 use Rattle.nm_types.specs.OwnPorts.{OwnPort, OwnState, ring_on}
 use Rattle.nm_types.specs.Limits.{most_frame_bytes}
-use Rattle.nm_types.specs.Sendable.{is_frame}
+use Rattle.nm_types.specs.Sendable.{AreFrames, is_frame}
 use Rattle.vale_entry.specs.declared.entry.Ask.{Ask}
 use Rattle.vale_entry.specs.declared.entry.Ask.TheVariants.{Sync, Get}
 use Rattle.vale_entry.specs.declared.entry.Entry.{Entry}
@@ -16,11 +16,11 @@ use Rattle.vale_entry.specs.declared.entry.Reply.{Reply}
 use Rattle.vale_entry.specs.World.{World, Port, is_open_at, open_port}
 use Rattle.vale_entry.specs.Delivered.{frames_at, of_entry_in, read_by}
 use Rattle.vale_entry.specs.Delivery.{delivered_frames}
-use Rattle.vale_entry.specs.Laws.{AreFrames, HoldsWholeLot}
-use Rattle.vale_entry.specs.Legal.{IsLegal, world_of}
+use Rattle.vale_entry.specs.Laws.{LotHasFrames}
+use Rattle.vale_entry.specs.Legal.{IsLegal, world_of, fresh_standing}
 use Rattle.vale_entry.proofs.Each.{each-find}
 use Rattle.vale_entry.proofs.LinesOfFrames.{delivered-whole, lines-have_frames}
-use Rattle.vale_own.proofs.OwnKept.{legal-split}
+use Rattle.vale_entry.proofs.Worlds.{legal-take}
 use Rattle.nm_user.specs.declared.receiving.Received.{Received}
 use Rattle.nm_user.specs.Receives.{HasPort, IsReceived}
 use Rattle.nm_user.specs.Saving.{bytes_of_frame, frames_from, read_of}
@@ -34,27 +34,24 @@ tail-is own id at = ap (λ (o : Option OwnPort). option_map_or tail_of_ring (opt
 
 -- ---- what an entry reads are frames
 
-abbrev HasWholeLine : Port → Type 0
-HasWholeLine port = Each HoldsWholeLot port.line
+abbrev LineHasFrames : Port → Type 0
+LineHasFrames port = Each LotHasFrames port.line
 
-found-fit : (ports : List Port) (id : ℕ) → Each HasWholeLine ports → AreFrames (frames_at delivered_frames (open_port ports id))
+found-fit : (ports : List Port) (id : ℕ) → Each LineHasFrames ports → AreFrames (frames_at delivered_frames (open_port ports id))
 found-fit ports id whole = by (open_port ports id) refl
   where
     by : (found : Option Port) → open_port ports id ≡ found → AreFrames (frames_at delivered_frames found)
     by None e = refl
-    by (Some p) e = delivered-whole p (each-find HasWholeLine (is_open_at id) ports p whole e)
+    by (Some p) e = delivered-whole p (each-find LineHasFrames (is_open_at id) ports p whole e)
 
 either-fit : (b : Bool) (frames : List Frame) → AreFrames frames → AreFrames (cond b frames [])
 either-fit true frames fit = fit
 either-fit false frames fit = refl
 
-reads-fit : (id : ℕ) (w : World) (ask : Ask) (reply : Reply) → Each HasWholeLine w.ports → AreFrames (read_by id w ask reply)
+reads-fit : (id : ℕ) (w : World) (ask : Ask) (reply : Reply) → Each LineHasFrames w.ports → AreFrames (read_by id w ask reply)
 reads-fit id w (Sync at back) reply whole = either-fit (at.0 == id) (frames_at delivered_frames (open_port w.ports at.0)) (found-fit w.ports at.0 whole)
 reads-fit id w (Get at back) reply whole = either-fit (at.0 == id) (frames_at delivered_frames (open_port w.ports at.0)) (found-fit w.ports at.0 whole)
 reads-fit id w _ reply whole = refl
-
-legal-before : (pool n : ℕ) (history : List Entry) → IsLegal pool history → IsLegal pool (take n history)
-legal-before pool n history legal = (legal-split pool (take n history) (drop n history) (subst (IsLegal pool) (sym (take-append-drop n history)) legal)).0
 
 read-fit : (pool : ℕ) (history : List Entry) (id number : ℕ) → IsLegal pool history → AreFrames (read_of pool history id number)
 read-fit pool history id number legal = by (slice_get history (number - 1))
@@ -64,7 +61,7 @@ read-fit pool history id number legal = by (slice_get history (number - 1))
 
     by : (found : Option Entry) → AreFrames (option_map_or (of_entry_in read_by id (world_of pool before)) found [])
     by None = refl
-    by (Some e) = reads-fit id (world_of pool before) e.ask e.reply (lines-have_frames pool before (legal-before pool (number - 1) history legal)).lines
+    by (Some e) = reads-fit id (world_of pool before) e.ask e.reply (lines-have_frames pool before (legal-take (fresh_standing pool) history (number - 1) legal)).lines
 
 -- ---- and so are those that stand in the ring
 

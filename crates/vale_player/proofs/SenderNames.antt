@@ -108,7 +108,7 @@ parts-faces id (part ∷ parts) s =
     parts-faces id parts (with_part id more part s) ∙ part-faces id more part s
 
 frame-faces : (id : ℕ) (bytes : List ℕ) (s : OwnState) → faces (with_frame id bytes s).ports ≡ faces s.ports
-frame-faces id bytes s = by (has_room s id bytes)
+frame-faces id bytes s = by (has_room s id (length bytes))
   where
     by : (b : Bool) → faces (cond b (with_parts id (parts_of bytes) s) s).ports ≡ faces s.ports
     by true = parts-faces id (parts_of bytes) s

@@ -1,5 +1,5 @@
 -- What the users of a script that was accepted can do.
-use Rattle.std.proofs.Common.{ℕ, ◌≡◌, ◌||◌, Bool, true, false, not, cond, List, [], ◌∷◌, ◌++◌, Option, Some, None, is_some, refl}
+use Rattle.std.proofs.Common.{ℕ, ◌≡◌, ◌||◌, true, false, not, List, [], ◌∷◌, ◌++◌, Option, Some, None, is_some, refl}
 use Rattle.std.proofs.lemmas.Bool.{or_parts}
 use Rattle.std.specs.List.{AllByRecursion}
 use Rattle.nm_types.specs.declared.name.Kind.{Kind}
@@ -11,26 +11,13 @@ use Rattle.vale_script.specs.declared.script.Line.{Line}
 use Rattle.vale_script.specs.declared.script.Unit.{Unit as Part}
 use Rattle.vale_script.specs.declared.script.Unit.TheVariants as parts
 use Rattle.vale_script.specs.Replay.{act_says, line_says, lines_say, unit_says, units_say, replayed, MeetNoCause}
-use Rattle.vale_script.specs.Rules.{Draft, nothing_said, act_cause, after, cause_of, first_use, second_use, lacks_port, lacks_ports, watches_wrongly}
+use Rattle.vale_script.specs.Rules.{Draft, nothing_said, after, cause_of}
 use Rattle.vale_script.specs.Sound.{IsSoundAct, IsSoundLine, IsSoundUnit}
 use Rattle.vale_script.specs.Statements.{Statement, Begin, End}
 use Rattle.vale_player.specs.Deeds.{IsSoundWatch, IsDoableUnit, AreDoable, SoundScriptsAreDoable}
+use Rattle.vale_replay.proofs.FitScripts.{is-true, not-wrong}
 
 -- ---- a line
-
-passed : {X : Type 0} (b : Bool) (x : X) (o : Option X) → cond b (Some x) o ≡ None → (b ≡ false) × (o ≡ None)
-passed true x o e = absurd cc
-passed false x o e = (refl, e)
-
-is-true : (b : Bool) → not b ≡ false → b ≡ true
-is-true true e = refl
-is-true false e = absurd cc
-
-not-wrong : (draft : Draft) (user : List ℕ) (act : Act) → act_cause draft user act ≡ None → watches_wrongly act ≡ false
-not-wrong draft user act none =
-    let there = passed (not (is_some (draft.numbers user))) _ _ none in
-    let has = passed (lacks_ports draft user act) _ _ there.1 in
-    (or_parts (lacks_port draft user (first_use act) || lacks_port draft user (second_use act)) (watches_wrongly act) has.0).1
 
 watchable : (name : List ℕ) → is_name name ≡ true → is_monitor_name name ≡ false → (is_switch_port_name name || is_pipe_name name) ≡ true
 unfolding is_name is_monitor_name is_switch_port_name is_pipe_name

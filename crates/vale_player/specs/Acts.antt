@@ -2,7 +2,6 @@
 -- the user does not have one of them, it changes nothing.
 use Rattle.std.specs.Prelude.{ℕ, Bool, not, ◌≡◌, List, Some, None}
 use Rattle.nm_types.specs.declared.id.Side.{Side}
-use Rattle.nm_types.specs.Names.{is_pipe_name}
 use Rattle.nm_types.specs.OwnPorts.{OwnPort, OwnState, port_with_name}
 use Rattle.nm_types.specs.OwnEdits.{SlotPlace, with_positions, with_all_back, with_slot_field, with_slots_swapped, with_forwarded, with_extra_link}
 use Rattle.vale_script.specs.declared.script.SlotField.{SlotField}
@@ -19,7 +18,7 @@ abbrev pub place : Side → ℕ → ℕ → SlotPlace
 place side id at = record { side = side; port = id; at = at }
 
 pub record ActsBetween (own : OwnState) (name other : List ℕ) (id other_id : ℕ) : Type 0 where
-  pub forward : (count : ℕ) → changed_by (Fwd name other count) own ≡ with_forwarded (is_pipe_name other) count id other_id own
+  pub forward : (count : ℕ) → changed_by (Fwd name other count) own ≡ with_forwarded count id other_id own
   pub swap : (side other_side : Side) (at other_at : ℕ) (quiet : Bool)
       → changed_by (Swap name side at other other_side other_at quiet) own ≡ with_slots_swapped (not quiet) (place side id at) (place other_side other_id other_at) own
 

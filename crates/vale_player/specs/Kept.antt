@@ -1,6 +1,6 @@
 -- The frames that are kept of a session's ports while it plays.
 use Rattle.std.specs.Prelude.{ℕ, Bool, true, ◌≡◌, ◌++◌, ◌==◌, if◌then◌else◌, List, [], ◌∷◌, length, map, find, bytes_eq, Option, Some, None, IsSome, IfSome, option_map, Result, Ok, Err, Vec}
-use Rattle.std.specs.List.{AllByRecursion, list_all, list_any}
+use Rattle.std.specs.List.{AllByRecursion, list_any}
 use Rattle.std.specs.Option.{option_map_or}
 use Rattle.std.specs.declared.alloc.Global.{Global}
 use Rattle.nm_types.specs.declared.fault.OpenFault.{OpenFault}
@@ -9,7 +9,7 @@ use Rattle.nm_types.specs.declared.fault.SyncFault.{SyncFault}
 use Rattle.nm_types.specs.declared.id.PortId.{PortId}
 use Rattle.nm_types.specs.declared.id.Side.TheVariants.{Rx}
 use Rattle.nm_types.specs.Frames.{Frame}
-use Rattle.nm_types.specs.Sendable.{is_frame}
+use Rattle.nm_types.specs.Sendable.{AreFrames}
 use Rattle.nm_types.specs.OwnPorts.{OwnPort, OwnRing, OwnState, ring_at}
 use Rattle.pcap_io.specs.declared.record.Record.{Record}
 use Rattle.vale_entry.specs.declared.entry.Entry.{Entry}
@@ -149,7 +149,7 @@ kept_received own id tail (Some received) kept = map (grown_if own id tail recei
 -- as many frames have come as the sync says, and each is no longer than frames are
 pub record AreReceived (received : Received) (frames : List Frame) : Type 0 where
   pub count : received.gave ≡ length frames
-  pub fit : list_all is_frame frames ≡ true
+  pub fit : AreFrames frames
 
 abbrev pub HasReceived : OwnState → ℕ → ℕ → Option Received → Type 0
 HasReceived own id tail None = Unit {0}

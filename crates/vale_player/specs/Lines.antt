@@ -1,5 +1,5 @@
 -- What a session does of its user's lines, whatever they say behind that.
-use Rattle.std.specs.Prelude.{ℕ, Bool, true, false, not, ◌≡◌, ◌||◌, if◌then◌else◌, List, [], ◌∷◌, ◌++◌, Option, Some, None}
+use Rattle.std.specs.Prelude.{ℕ, Bool, true, false, not, ◌≡◌, ◌||◌, if◌then◌else◌, List, [], ◌∷◌, ◌++◌, Option, Some, None, length}
 use Rattle.nm_types.specs.OwnPorts.{OwnPort, port_with_name}
 use Rattle.nm_types.specs.OwnEdits.{has_room, with_frame}
 use Rattle.vale_entry.specs.declared.entry.Ask.{Ask}
@@ -75,7 +75,7 @@ OwnActsAreDone =
 abbrev pub FramesArePut : Type 0
 FramesArePut =
     (number : ℕ) (saves : List Save) (s : SessionState) (name bytes : List ℕ) (p : OwnPort)
-    → IsThere None s → port_with_name s.own name ≡ Some p → has_room s.own p.id.0 bytes ≡ true
+    → IsThere None s → port_with_name s.own name ≡ Some p → has_room s.own p.id.0 (length bytes) ≡ true
     → DoesTasks number saves s (record s { own = with_frame p.id.0 bytes s.own }) (PutFrame name bytes ∷ [])
 
 -- a call that made one entry

@@ -172,7 +172,7 @@ impl<'f> Player<'f> {
         requires named { sender_named self.old.session.own name.now ≡ Some port }
         ensures does { Does self.old self.new (replicate result (PutFrame name.now bytes.now)) }
         ensures named { sender_named self.new.session.own name.now ≡ Some port }
-        ensures some { has_room self.old.session.own port.0 bytes.now ≡ true → 1 ≤ count
+        ensures some { has_room self.old.session.own port.0 (length bytes.now) ≡ true → 1 ≤ count
             → 1 ≤ result }
         ensures most { result ≤ count }
         ensures still { IsStill self.old self.new }
@@ -183,7 +183,7 @@ impl<'f> Player<'f> {
     /// There is room for a frame in the transmit ring of a port.
     fn has_room(&self, port: PortId, bytes: &[u8]) -> bool
         requires { length bytes.now ≤ most_frame_bytes }
-        ensures room { result ≡ has_room self.now.session.own port.0 bytes.now }
+        ensures room { result ≡ has_room self.now.session.own port.0 (length bytes.now) }
         ensures there { IsThere None self.now.session }
     {
         self.session.has_room(port, bytes.len())
@@ -219,7 +219,7 @@ impl<'f> Player<'f> {
         ensures room { IfOk result
             (NeedsNoneOrEnds self.old self.new (PutFrame name.now bytes.now)) }
         ensures ready { IfOk result (λ goes.
-            goes ≡ true → has_room self.new.session.own port.0 bytes.now ≡ true) }
+            goes ≡ true → has_room self.new.session.own port.0 (length bytes.now) ≡ true) }
         ensures named { sender_named self.new.session.own name.now ≡ Some port }
         ensures stops { IfErr result (StopsAt self.old self.new (PutFrame name.now bytes.now)) }
         ensures still { IsStill self.old self.new }

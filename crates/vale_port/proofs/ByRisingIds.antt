@@ -1,5 +1,5 @@
 -- A port among those of rising ids stands behind all of smaller ids, so it is found by halves.
-use Rattle.std.proofs.Common.{ℕ, zero, suc, Bool, true, false, not, ◌==◌, List, [], ◌∷◌, ◌≡◌, ◌≤◌, ◌<◌, ◌+◌, inl, inr, Some, None, length, map, get_or, refl, sym, ◌∙◌, ap, subst, arith}
+use Rattle.std.proofs.Common.{ℕ, Bool, true, false, not, ◌==◌, List, [], ◌∷◌, ◌≡◌, ◌≤◌, ◌<◌, inl, inr, Some, None, length, map, get_or, refl, sym, ◌∙◌, ap, subst, arith}
 use Rattle.std.specs.Prelude.{position}
 use Rattle.std.specs.List.{position_or_len, prefix_len}
 use Rattle.std.specs.List.Sorted.{IsNonDecreasingBy, IsPartitionedBy, IsPartitionPoint}
@@ -11,6 +11,7 @@ use Rattle.vale_line.specs.Lines.{new_line}
 use Rattle.vale_entry.specs.World.{Port}
 use Rattle.vale_entry.specs.Holdings.{PortBuffers}
 use Rattle.vale_entry.specs.Laws.{Rise, id_of_port}
+use Rattle.vale_entry.proofs.Rising.{rise-increases}
 use Rattle.vale_port.specs.Lists.{AreRising}
 use Rattle.vale_port.specs.Ports.{PortState, AreByRisingIds, AreSeatsOf, is_state_before, is_state_of, is_open_state}
 use Rattle.vale_port.specs.Seat.{Seat, port_of, seats_of}
@@ -114,20 +115,6 @@ open-bears id p is = eqb-true p.id id (and_parts (p.id == id) (not p.shutting) i
 
 -- The ports that stand for a world's are by rising ids.
 
-above : (low : ℕ) (ns : List ℕ) (high j d : ℕ) → Rise low ns high → j < length ns → low < get_or ns j d
-above low [] high j d rise within = absurd (omega (arith, within))
-above low (n ∷ ns) high zero d rise within = rise.0
-above low (n ∷ ns) high (suc j) d rise within =
-    let rest = above n ns high j d rise.1 (omega (arith, within)) in
-    let first : low < n = rise.0 in
-    omega (arith, first, rest)
-
-increase : (low : ℕ) (ns : List ℕ) (high i j d : ℕ) → Rise low ns high → i < j → j < length ns → get_or ns i d < get_or ns j d
-increase low [] high i j d rise less within = absurd (omega (arith, within))
-increase low (n ∷ ns) high i zero d rise less within = absurd (omega (arith, less))
-increase low (n ∷ ns) high zero (suc j) d rise less within = above n ns high j d rise.1 (omega (arith, within))
-increase low (n ∷ ns) high (suc i) (suc j) d rise less within = increase n ns high i j d rise.1 (omega (arith, less)) (omega (arith, within))
-
 same-ids : (seats : List Seat) (ps : List PortState) → AreSeatsOf seats ps → map id_of ps ≡ map id_of_port (map port_of seats)
 same-ids [] [] are = refl
 same-ids [] (p ∷ ps) are = absurd are
@@ -142,7 +129,7 @@ by-rising-ids ports helds ps are i j d less within =
     let ids : map id_of ps ≡ map id_of_port ports = same-ids (seats_of ports helds) ps are.stand ∙ ap (λ (all : List Port). map id_of_port all) (seats-ports ports helds are.agree) in
     let rise = subst (λ (ns : List ℕ). Rise 0 ns are.high) (sym ids) are.rise in
     let long = length-map ps id_of in
-    let up = increase 0 (map id_of ps) are.high i j 0 rise less (omega (arith, within, long)) in
+    let up = rise-increases 0 (map id_of ps) are.high i j 0 rise less (omega (arith, within, long)) in
     let one = get_or-map id_of ps i d 0 (omega (arith, less, within)) in
     let two = get_or-map id_of ps j d 0 within in
     omega (arith, up, one, two)

@@ -1,7 +1,7 @@
 -- What a line does is what the world's port does.
 use Rattle.std.specs.Prelude.{ℕ, Bool, true, ◌==◌, ◌≡◌, ◌≤◌, List, [], ◌++◌, drop, length, map, find, Some, option_map, All}
-use Rattle.std.specs.List.{list_any, list_all}
-use Rattle.nm_types.specs.Sendable.{is_frame}
+use Rattle.std.specs.List.{list_any}
+use Rattle.nm_types.specs.Sendable.{AreFrames}
 use Rattle.nm_types.specs.declared.id.LeaseId.{LeaseId}
 use Rattle.nm_types.specs.Frames.{Frame, size_of_frames}
 use Rattle.nm_region.specs.Buffers.{Buffer, indices_of}
@@ -89,7 +89,7 @@ FilledIsOut = (seat : Seat) (p : PortState) (lease : Leased) → IsSeatOf seat p
 
 -- what a grant asks for: each frame takes 1 to `most_frame_slots` slots
 abbrev pub SizesAreFrameSizes : Type 0
-SizesAreFrameSizes = (frames : List Frame) → list_all is_frame frames ≡ true → All IsFrameSize (sizes_of frames)
+SizesAreFrameSizes = (frames : List Frame) → AreFrames frames → All IsFrameSize (sizes_of frames)
 
 -- a line has as many buffers as the ring of its port
 abbrev pub RingIsRing : Type 0

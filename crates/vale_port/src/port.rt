@@ -279,8 +279,9 @@ impl Port {
     pub fn ready_sizes(&self, sizes: &mut Vec<u32>)
         requires none { sizes.old.items ≡ [] }
         requires room { length (ready_frames self.now.line.lots) ≤ vec_capacity sizes.old }
-        ensures { (seat : Seat) → IsSeatOf seat self.now
+        ensures sizes { (seat : Seat) → IsSeatOf seat self.now
             → sizes.new.items ≡ sizes_of (delivered_frames seat.port) }
+        ensures capacity { vec_capacity sizes.new ≡ vec_capacity sizes.old }
     {
         self.line.ready_sizes(sizes);
     }

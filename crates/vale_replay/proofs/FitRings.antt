@@ -18,10 +18,10 @@ use Rattle.nm_types.specs.Positions.{IsRingSize, is_user_slot, opened_tx, step_o
 use Rattle.nm_types.specs.Slots.{SlotState, Pushed, slot_after_push}
 use Rattle.nm_types.specs.SyncChecks.{contains_index, is_tx}
 use Rattle.nm_types.specs.Reset.{reset_slot}
-use Rattle.nm_types.specs.OwnPorts.{OwnRing, OwnPort, OwnState, Arrival, blank_slot, buffer_in, slot_in, index_of, with_slot, ring_on, ring_at, port_if, with_port, with_ring, with_ring_on, named_of, port_with_id, pushed_at, pushed_in, pushed_on, pushed_count}
-use Rattle.nm_types.specs.OwnEdits.{SlotPlace, ring_at_positions, with_positions, with_all_back, user_slot, user_slot_at, with_user_slot, slot_written, with_written_slot, with_slot_field, slot_naming, slot_of_place, with_two_slots, with_slots_swapped, has_room, slot_with_part, ring_with_part, with_written, with_part_on, with_parts, with_frame, sent_slot, ring_forwarding, with_heads_forwarded, with_slots_forwarded, frame_slots, can_forward, with_next_forwarded, with_forwarded, link_in, with_extra_link_in, with_extra_link, extra_number}
+use Rattle.nm_types.specs.OwnPorts.{OwnRing, OwnPort, OwnState, Arrival, blank_slot, buffer_in, slot_in, index_of, with_slot, ring_on, ring_at, port_if, with_port, with_ring, with_ring_on, named_of, port_with_id, pushed_at, pushed_in, pushed_on, pushed_count, is_whole_at}
+use Rattle.nm_types.specs.OwnEdits.{SlotPlace, ring_at_positions, with_positions, with_all_back, user_slot, user_slot_at, with_user_slot, slot_written, with_written_slot, with_slot_field, slot_naming, slot_of_place, with_two_slots, with_slots_swapped, has_room, slot_with_part, ring_with_part, with_written, with_part_on, with_parts, with_frame, sent_slot, ring_forwarding, with_heads_forwarded, with_slots_forwarded, frame_slots, can_forward, with_next_forwarded, frames_forwarded, with_forwarded, link_in, with_extra_link_in, with_extra_link, extra_number}
 use Rattle.nm_types.specs.OwnSyncs.{ring_swapped, port_swapped, buffer_on, after_slot, after_exchange, with_push_cleared, slots_after_push, ring_after_send, own_after_send, taken_slots, with_slot_refilled, with_place_refilled, ring_after_put, own_after_put, offered_slots, buffers_of_arrivals, published, ring_after_receive, own_after_receive, with_slot_reset, ring_after_reset, own_after_reset, opened_slot, opened_tx_ring, opened_port, own_after_open, own_after_finish}
-use Rattle.vale_entry.proofs.Each.{each-append, each-drop, each-find, each-map}
+use Rattle.vale_entry.proofs.Each.{each-append, each-drop, each-find, each-map, each-take}
 use Rattle.vale_own.specs.SideAsks.{HasFields, SlotFits}
 use Rattle.vale_own.proofs.SideOpens.{Sized}
 use Rattle.vale_replay.specs.MayCall.{HasFieldsIf, PortFits}
@@ -85,11 +85,6 @@ each-filter P test (x ∷ xs) all = by (test x) (each-filter P test xs all.1)
     by : (b : Bool) → Each P (filter test xs) → Each P (cond b (x ∷ filter test xs) (filter test xs))
     by true rest = (all.0, rest)
     by false rest = rest
-
-pub each-take : {X : Type 0} (P : X → Type 0) (n : ℕ) (xs : List X) → Each P xs → Each P (take n xs)
-each-take P zero xs all = tt
-each-take P (suc n) [] all = tt
-each-take P (suc n) (x ∷ xs) all = (all.0, each-take P n xs all.1)
 
 fold-keeps : {A B : Type 0} (P : B → Type 0) (Q : A → Type 0) (f : B → A → B) → ((b : B) (a : A) → P b → Q a → P (f b a)) → (b : B) (xs : List A) → P b → Each Q xs → P (fold f b xs)
 fold-keeps P Q f keeps b [] here all = here
@@ -247,7 +242,7 @@ parts-fit id (part ∷ parts) s short fit =
     parts-fit id parts (with_part_on id (not (length parts == 0)) part s (ring_at Tx s id)) short.1 (part-fit id (not (length parts == 0)) part s (ring_at Tx s id) refl short.0 fit)
 
 pub frame-fit : (id : ℕ) (bytes : List ℕ) (s : OwnState) → IsFit s → IsFit (with_frame id bytes s)
-frame-fit id bytes s fit = by (has_room s id bytes)
+frame-fit id bytes s fit = by (has_room s id (length bytes))
   where
     by : (b : Bool) → IsFit (cond b (with_parts id (parts_of bytes) s) s)
     by true = parts-fit id (parts_of bytes) s (parts-short (slots_of_length (length bytes)) bytes) fit
@@ -284,10 +279,13 @@ next-fit others keeps whole from to s (Some rx) (Some tx) fit = by (can_forward 
 next-fit others keeps whole from to s (Some rx) None fit = fit
 next-fit others keeps whole from to s None tx fit = fit
 
-pub forwarded-fit : (whole : Bool) (count from to : ℕ) (s : OwnState) → IsFit s → IsFit (with_forwarded whole count from to s)
-forwarded-fit whole zero from to s fit = fit
-forwarded-fit whole (suc count) from to s fit =
-    next-fit (with_forwarded whole count from to) (λ t here. forwarded-fit whole count from to t here) whole from to s (ring_at Rx s from) (ring_at Tx s to) fit
+frames-fit : (whole : Bool) (count from to : ℕ) (s : OwnState) → IsFit s → IsFit (frames_forwarded whole count from to s)
+frames-fit whole zero from to s fit = fit
+frames-fit whole (suc count) from to s fit =
+    next-fit (frames_forwarded whole count from to) (λ t here. frames-fit whole count from to t here) whole from to s (ring_at Rx s from) (ring_at Tx s to) fit
+
+pub forwarded-fit : (count from to : ℕ) (s : OwnState) → IsFit s → IsFit (with_forwarded count from to s)
+forwarded-fit count from to s fit = frames-fit (is_whole_at s to) count from to s fit
 
 link-fit : (id : ℕ) (p : OwnPort) (from next : ℕ) (s : OwnState) → IsFit s → IsFit (link_in id p from next s)
 link-fit id p zero next s fit = port-fit id (λ (q : OwnPort). record q { extra_head = next }) (λ q here. record { tx = here.tx; rx = here.rx }) s fit

@@ -29,15 +29,15 @@ abbrev pub FitsUnit : Part → Type 0
 FitsUnit (parts.Single line) = FitsLine line
 FitsUnit (parts.Block lines) = Each FitsLine lines
 
-passed : {X : Type 0} (b : Bool) (x : X) (o : Option X) → cond b (Some x) o ≡ None → (b ≡ false) × (o ≡ None)
+pub passed : {X : Type 0} (b : Bool) (x : X) (o : Option X) → cond b (Some x) o ≡ None → (b ≡ false) × (o ≡ None)
 passed true x o e = absurd cc
 passed false x o e = (refl, e)
 
-is-true : (b : Bool) → not b ≡ false → b ≡ true
+pub is-true : (b : Bool) → not b ≡ false → b ≡ true
 is-true true e = refl
 is-true false e = absurd cc
 
-not-wrong : (draft : Draft) (user : List ℕ) (act : Act) → act_cause draft user act ≡ None → watches_wrongly act ≡ false
+pub not-wrong : (draft : Draft) (user : List ℕ) (act : Act) → act_cause draft user act ≡ None → watches_wrongly act ≡ false
 not-wrong draft user act none =
     let there = passed (not (is_some (draft.numbers user))) _ _ none in
     let has = passed (lacks_ports draft user act) _ _ there.1 in

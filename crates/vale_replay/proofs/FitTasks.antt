@@ -6,7 +6,6 @@ use Rattle.std.proofs.lemmas.Bool.{cases_Bool, eq-eqb}
 use Rattle.std.proofs.lemmas.Bool.Decides.{nat_tests}
 use Rattle.std.proofs.lemmas.Option.{same_Some}
 use Rattle.std.proofs.lemmas.Slice.Eq.{bytes_eq-Decides}
-use Rattle.nm_types.specs.Names.{is_pipe_name}
 use Rattle.nm_types.specs.OwnPorts.{OwnPort, OwnState, port_with_name}
 use Rattle.nm_types.specs.OwnEdits.{with_frame, with_forwarded, with_extra_link, with_positions, with_slots_swapped, with_all_back}
 use Rattle.vale_entry.specs.Legal.{fits_u32}
@@ -118,7 +117,7 @@ field-fits Ptr value most = tt
 act-fit : (act : Act) → ChangeFits act → (s : OwnState) → IsFit s → IsFit (changed_by act s)
 act-fit (acts.Rx name keep) ok s fit = at-fit name with_all_back all_back-fit s fit
 act-fit (acts.Fwd from to count) ok s fit =
-    at-fit from (λ id. at_port to (with_forwarded (is_pipe_name to) count id)) (λ id t here. at-fit to (with_forwarded (is_pipe_name to) count id) (λ other u there. forwarded-fit (is_pipe_name to) count id other u there) t here) s fit
+    at-fit from (λ id. at_port to (with_forwarded count id)) (λ id t here. at-fit to (with_forwarded count id) (λ other u there. forwarded-fit count id other u there) t here) s fit
 act-fit (acts.Poke name side slot field value) ok s fit =
     at-fit name (poked side slot field value) (λ id t here. field-fit side id slot (field_written field value) t (field-fits field value ok) here) s fit
 act-fit (acts.Move name side head cur) ok s fit =

@@ -27,7 +27,7 @@ use Rattle.vale_entry.specs.Opening.{open_refusal}
 use Rattle.vale_entry.specs.OwnCalls.{finish_call, own_by, own_after}
 use Rattle.vale_entry.specs.Pipe.{peer_of}
 use Rattle.vale_entry.proofs.Counting.{count_of, count_of-cons}
-use Rattle.vale_entry.proofs.Each.{each-append, each-map, each-weaker}
+use Rattle.vale_entry.proofs.Each.{each-append, each-map, each-weaker, each-take}
 use Rattle.vale_own.specs.Own.{own_of}
 use Rattle.vale_own.proofs.Arriving.{arrivals-apart}
 use Rattle.vale_own.proofs.SideOpens.{Sized, opened-sizes}
@@ -41,7 +41,7 @@ use Rattle.vale_replay.specs.MayCall.{HasFit, UsersFit, AcceptedCallsMayBeMade}
 use Rattle.vale_replay.specs.Replay.{Cast, UnitShare, ScriptUnit, TakesTurn, TakesTurns, EachShare, ReplaysShare, ReplaysUnits, HasPlayed, Reaches, entry_of, act_of, acts_of, is_of_user, has_line, share_of, shares_of, starting, closing_unit, units_of, user_count, cast_of, with_afters, standing_before}
 use Rattle.vale_replay.specs.Tasks.{Captures, Task, PutFrame, SendFrames, ShutPort, FinishPort, Depart, records_of}
 use Rattle.vale_replay.proofs.Calling.{calls-may}
-use Rattle.vale_replay.proofs.FitRings.{FitsWord, IsFit, ComesFit, each-set, each-take, each-filter, open-fit, reset-fit, send-fit, put-fit, receive-fit, finish-fit}
+use Rattle.vale_replay.proofs.FitRings.{FitsWord, IsFit, ComesFit, each-set, each-filter, open-fit, reset-fit, send-fit, put-fit, receive-fit, finish-fit}
 use Rattle.vale_replay.proofs.FitScripts.{FitsAct, FitsLine, FitsUnit, script-fits}
 use Rattle.vale_replay.proofs.FitTasks.{IsLineTask, AreClosing, Closes, AreFit, FitsUser, has-fit, rest-fits, left_if-fit, lines-tasks, closing-fits, finish-fits}
 use Rattle.vale_replay.proofs.Legal.{made-follows}

@@ -1,5 +1,5 @@
 -- A frame for which there is room is put without a call.
-use Rattle.std.proofs.Common.{ℕ, ◌≡◌, Bool, true, false, cond, List, Option, Some, None, refl, sym, ◌∙◌, ap}
+use Rattle.std.proofs.Common.{ℕ, ◌≡◌, Bool, true, false, cond, List, Option, Some, None, refl, sym, ◌∙◌, ap, length}
 use Rattle.std.specs.Prelude.{option_and_then}
 use Rattle.std.specs.Option.{option_map_or}
 use Rattle.nm_types.specs.declared.id.Side.TheVariants.{Tx}
@@ -17,7 +17,7 @@ pub room-none : (own : OwnState) (name bytes : List ℕ) → ((p : OwnPort) → 
     → has_room_at own name bytes ≡ true → option_and_then (put_call own bytes) (port_with_name own name) ≡ None
 room-none own name bytes found e = by (port_with_name own name) refl e
   where
-    by : (o : Option OwnPort) → port_with_name own name ≡ o → option_map_or (λ (p : OwnPort). has_room own p.id.0 bytes) o false ≡ true → option_and_then (put_call own bytes) o ≡ None
+    by : (o : Option OwnPort) → port_with_name own name ≡ o → option_map_or (λ (p : OwnPort). has_room own p.id.0 (length bytes)) o false ≡ true → option_and_then (put_call own bytes) o ≡ None
     by None named is = refl
     by (Some p) named is =
         let has : option_map_or (has_slots (slots_of_bytes bytes)) p.tx false ≡ true = sym (ap (λ (o : Option OwnPort). option_map_or (has_slots (slots_of_bytes bytes)) (option_and_then (ring_on Tx) o) false) (found p named)) ∙ is in

@@ -3,7 +3,6 @@ use Rattle.std.proofs.Common.{Bool, true, false, cond, not, ℕ, zero, suc, ◌-
 use Rattle.std.specs.Prelude.{◌==◌, replicate, flat_map}
 use Rattle.nm_types.specs.declared.id.SessionId.{SessionId}
 use Rattle.nm_types.specs.OwnPorts.{OwnPort, OwnState, empty_own, port_with_name}
-use Rattle.nm_types.specs.Names.{is_pipe_name}
 use Rattle.nm_types.specs.OwnEdits.{with_positions, with_all_back, with_slots_swapped, with_frame, with_forwarded, with_extra_link}
 use Rattle.vale_script.specs.declared.script.Act.{Act}
 use Rattle.vale_script.specs.declared.script.Act.TheVariants as acts
@@ -31,7 +30,7 @@ port-keeps name change keeps pool session shut own s of =
 act-keeps : (act : Act) → KeepsSides (changed_by act)
 act-keeps (acts.Rx name keep) = port-keeps name with_all_back edits-keep.all_back
 act-keeps (acts.Fwd from to count) =
-    port-keeps from (λ id. at_port to (with_forwarded (is_pipe_name to) count id)) (λ id. port-keeps to (with_forwarded (is_pipe_name to) count id) (λ other. edits-keep.forwarded (is_pipe_name to) count id other))
+    port-keeps from (λ id. at_port to (with_forwarded count id)) (λ id. port-keeps to (with_forwarded count id) (λ other. edits-keep.forwarded count id other))
 act-keeps (acts.Poke name side slot field value) =
     port-keeps name (poked side slot field value) (λ id. edits-keep.slot_field side id slot (field_written field value))
 act-keeps (acts.Move name side head cur) = port-keeps name (λ id. with_positions side id head cur) (λ id. edits-keep.positions side id head cur)

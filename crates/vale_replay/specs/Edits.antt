@@ -5,7 +5,6 @@ use Rattle.nm_types.specs.declared.id.Side.{Side}
 use Rattle.nm_types.specs.declared.slot.SlotWrite.{SlotWrite}
 use Rattle.nm_types.specs.declared.slot.SlotWrite.TheVariants.{BufIdx}
 use Rattle.nm_types.specs.declared.slot.SlotWrite.TheVariants as writes
-use Rattle.nm_types.specs.Names.{is_pipe_name}
 use Rattle.nm_types.specs.OwnPorts.{OwnPort, OwnState, port_with_name}
 use Rattle.nm_types.specs.OwnEdits.{with_positions, with_all_back, with_slot_field, with_slots_swapped, with_forwarded, with_extra_link}
 use Rattle.vale_script.specs.declared.script.SlotField.{SlotField}
@@ -38,7 +37,7 @@ poked side at field value id s = with_slot_field side id at (field_written field
 
 abbrev pub changed_by : Act → OwnState → OwnState
 changed_by (acts.Rx name keep) s = at_port name with_all_back s
-changed_by (acts.Fwd from to count) s = at_ports from to (with_forwarded (is_pipe_name to) count) s
+changed_by (acts.Fwd from to count) s = at_ports from to (with_forwarded count) s
 changed_by (acts.Poke name side slot field value) s = at_port name (poked side slot field value) s
 changed_by (acts.Move name side head cur) s = at_port name (λ id. with_positions side id head cur) s
 changed_by (acts.Swap name side slot other other_side other_slot quiet) s =

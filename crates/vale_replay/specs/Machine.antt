@@ -1,7 +1,7 @@
 -- One user's machine: what the user has, what it has to do, what of that makes no call, and the
 -- call that it needs next. The offers of its session that are not granted, and its leases that are
 -- not done, stand in the world and are read there.
-use Rattle.std.specs.Prelude.{ℕ, Bool, true, false, not, ◌||◌, ◌==◌, if◌then◌else◌, List, [], ◌∷◌, ◌++◌, find, flat_map, Option, Some, None, is_some, option_map, option_and_then}
+use Rattle.std.specs.Prelude.{ℕ, Bool, true, false, not, ◌||◌, ◌==◌, if◌then◌else◌, List, [], ◌∷◌, ◌++◌, find, flat_map, Option, Some, None, is_some, option_map, option_and_then, length}
 use Rattle.std.specs.Option.{option_or, option_map_or}
 use Rattle.nm_types.specs.declared.id.PortId.{PortId}
 use Rattle.nm_types.specs.declared.id.SessionId.{SessionId}
@@ -152,7 +152,7 @@ is_peer_gone _ = false
 
 abbrev pub has_room_at : OwnState → List ℕ → List ℕ → Bool
 has_room_at s name bytes =
-    option_map_or (λ (p : OwnPort). has_room s p.id.0 bytes) (port_with_name s name) false
+    option_map_or (λ (p : OwnPort). has_room s p.id.0 (length bytes)) (port_with_name s name) false
 
 -- a frame whose ring was synced is put now; the line ends where the sync was refused, and where the
 -- ring has too few slots still

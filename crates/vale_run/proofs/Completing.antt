@@ -158,7 +158,7 @@ module _ (files : Option Files) (told : IsSome files) where
         let one = one-ready s.program s.played inputs-read in
         let lit : IsLight s.program s.played = subst (λ (p : Program). IsLight p s.played) (sym one.0) (subst (IsLight program) (sym one.1) light) in
         let fit : TasksFit s.program (map frames_of s.played) limits =
-        light-fit says.script s.program s.played limits says.says s.sound says.few_lines (inputs-named files s.program.files s.played inputs-read.size inputs-read.read) lit entries bytes in
+        light-fit says.script s.program s.played limits says.says says.few_lines (inputs-named files s.program.files s.played inputs-read.size inputs-read.read) lit entries bytes in
         let stop = users-stop s.program (map frames_of s.played) s.history s.before s.user s.call s.stopped in
         not-refused (record { pool = s.program.pool; region = s.region; limits = limits; entries = take s.before s.history }) s.call part s.used s.want
         (few-fit s.program (map frames_of s.played) s.region limits (take s.before s.history) s.user s.call fit stop.comes) s.refused

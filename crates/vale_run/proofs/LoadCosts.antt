@@ -15,7 +15,8 @@ use Rattle.vale_replay.specs.Replay.{act_of}
 use Rattle.vale_replay.specs.Saved.{acts_of_unit}
 use Rattle.vale_cost.specs.Completeness.{IsPlainAct, TasksFit}
 use Rattle.vale_cost.specs.FewFrames.{bytes_by}
-use Rattle.vale_cost.proofs.RoomLines.{HexIsShort, tasks-fit}
+use Rattle.vale_script.proofs.HexLines.{HexFits}
+use Rattle.vale_cost.proofs.RoomLines.{tasks-fit}
 
 -- ---- lists of lines
 
@@ -25,7 +26,7 @@ record AreLight (acts : List Act) (lines frames : ℕ) : Type 0 where
   counted : sum_by count_of acts ≤ frames
   bytes : sum_by (bytes_by []) acts ≤ 2048 * frames
   plain : Each IsPlainAct acts
-  short : Each HexIsShort acts
+  short : Each HexFits acts
 
 none-light : AreLight [] 0 0
 none-light = record { few = omega arith; counted = omega arith; bytes = omega arith; plain = tt; short = tt }
@@ -36,7 +37,7 @@ light-append xs ys k f l g one other = record {
   counted = omega (arith, sum_by-append count_of xs ys, one.counted, other.counted);
   bytes = omega (arith, sum_by-append (bytes_by []) xs ys, one.bytes, other.bytes);
   plain = each-joined IsPlainAct xs ys one.plain other.plain;
-  short = each-joined HexIsShort xs ys one.short other.short;
+  short = each-joined HexFits xs ys one.short other.short;
 }
 
 light-within : (acts : List Act) (k f l g : ℕ) → k ≤ l → f ≤ g → AreLight acts k f → AreLight acts l g

@@ -59,7 +59,7 @@ none-out (place ∷ places) i words (word ∷ others) before at read =
 
 -- What is known of a word that was read.
 
-then-ok : {A B : Type 0} (a : Result A LineCause) (f : A → Result B LineCause) (b : B) → (a >>= f) ≡ Ok b → (x : A) × (a ≡ Ok x) × (f x ≡ Ok b)
+pub then-ok : {A B : Type 0} (a : Result A LineCause) (f : A → Result B LineCause) (b : B) → (a >>= f) ≡ Ok b → (x : A) × (a ≡ Ok x) × (f x ≡ Ok b)
 then-ok (Ok x) f b e = (x, refl, e)
 then-ok (Err cause) f b e = absurd cc
 

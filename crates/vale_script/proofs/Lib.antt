@@ -2,6 +2,7 @@ mod Causes
 mod Counts
 mod Cuts
 mod Free
+pub mod HexLines
 mod Keyed
 mod Packing
 mod Replays

@@ -8,7 +8,8 @@ use Rattle.std.proofs.lemmas.Option.{slice_get-get_or, slice_get-map}
 use Rattle.nm_types.specs.Parts.{slots_of_bytes}
 use Rattle.vale_entry.proofs.ListLaws.{each-at}
 use Rattle.vale_line.specs.Leased.{first_size}
-use Rattle.vale_serve.specs.Filling.{placed, IsPlaceIn, IsFrameBytes}
+use Rattle.vale_serve.specs.Filling.{placed, IsPlaceIn}
+use Rattle.nm_types.specs.Sendable.{IsFrameBytes}
 use Rattle.vale_serve.specs.Users.{contents}
 
 pub drop-next : (xs : List ℕ) (i : ℕ) → drop 1 (drop i xs) ≡ drop (i + 1) xs

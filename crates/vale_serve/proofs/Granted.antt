@@ -9,7 +9,7 @@ use Rattle.std.proofs.lemmas.Option.{slice_get-map, slice_get_within}
 use Rattle.nm_types.specs.Frames.{Frame, slots_of, size_of_frames}
 use Rattle.nm_types.specs.Limits.{most_frame_bytes}
 use Rattle.nm_types.specs.Parts.{slots_of_bytes, cut_frames}
-use Rattle.nm_types.specs.Sendable.{is_frame}
+use Rattle.nm_types.specs.Sendable.{IsFrameBytes, is_frame}
 use Rattle.nm_types.specs.declared.id.PortId.{PortId}
 use Rattle.nm_types.specs.declared.id.SessionId.{SessionId}
 use Rattle.nm_region.specs.Buffers.{Buffer, indices_of}
@@ -46,7 +46,7 @@ use Rattle.vale_book.specs.Recorded.{Recorded, standing, after_outcome, entry_of
 use Rattle.vale_book.specs.Leases.{WasGranted, is_held_as}
 use Rattle.vale_serve.specs.declared.users.Sent.{Sent}
 use Rattle.vale_serve.specs.declared.users.User.{User}
-use Rattle.vale_serve.specs.Filling.{placed, frames_for, IsFillable, IsFrameBytes}
+use Rattle.vale_serve.specs.Filling.{placed, frames_for, IsFillable}
 use Rattle.vale_serve.specs.Granting.{CanGrant, IsLeased, HasGranted, AddsLease, listed, given_in}
 use Rattle.vale_serve.specs.Users.{AreOffered, HasOffers, IsHeldAs, AreHeldAs, AreSame, IsRoom, HasOwn, IsUser, HasSent, contents, sent_of, wants_left, number_of, is_want_of, is_sent_of, is_sent_next, is_offered, is_next_to}
 use Rattle.vale_serve.proofs.Keeping.{IsLater, step-follows, leases-later, of-later, same-ports}

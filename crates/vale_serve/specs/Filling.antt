@@ -1,7 +1,7 @@
 -- A lease as it is filled with the first frames that are wanted.
 use Rattle.std.specs.Prelude.{ℕ, ◌≡◌, ◌≤◌, ◌<◌, List, [], length, filter_map, map, sum, take, slice_get}
 use Rattle.std.specs.List.{AllByRecursion}
-use Rattle.nm_types.specs.Limits.{most_frame_bytes}
+use Rattle.nm_types.specs.Sendable.{IsFrameBytes}
 use Rattle.nm_types.specs.Parts.{slots_of_bytes, cut_frames}
 use Rattle.nm_region.specs.Buffers.{indices_of}
 use Rattle.vale_line.specs.Leased.{Leased}
@@ -19,9 +19,6 @@ frames_for lease places frames = placed frames (take (length lease.sizes) places
 
 abbrev pub IsPlaceIn : List (List ℕ) → ℕ → Type 0
 IsPlaceIn frames place = place < length frames
-
-abbrev pub IsFrameBytes : List ℕ → Type 0
-IsFrameBytes bytes = length bytes ≤ most_frame_bytes
 
 -- no buffer of the lease is filled, and it has a buffer for each slot of its frames; as many at least
 -- are wanted, and what is wanted is there

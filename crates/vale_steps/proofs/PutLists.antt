@@ -13,11 +13,11 @@ use Rattle.vale_entry.specs.declared.entry.Item.{Item}
 use Rattle.vale_entry.specs.Pipe.{frames_of_items, frame_of_item}
 use Rattle.vale_entry.specs.Pipe.{indices_of as item_indices}
 use Rattle.vale_entry.proofs.ItemBytes.{bytes_of_items}
+use Rattle.vale_entry.proofs.Each.{each-take}
 use Rattle.vale_port.specs.Kept.{bytes_of}
 use Rattle.vale_port.specs.Lists.{OfState}
 use Rattle.vale_port.specs.Ports.{PortState}
 use Rattle.vale_steps.specs.Putting.{item_of, items_of}
-use Rattle.vale_steps.proofs.Lists.{each-take}
 
 map-take : {X Y : Type 0} (f : X → Y) (xs : List X) (i : ℕ) (x : X) → i < length xs → x ≡ get_or xs i x → map f (take (i + 1) xs) ≡ map f (take i xs) ++ f x ∷ []
 map-take f [] i x few e = absurd (omega (arith, few))

@@ -3,15 +3,15 @@ pub use Rattle.nm_count.specs.Tallies.{counts_of, tally_after_add}
 pub use Rattle.nm_types.specs.Counters.{SumFits}
 pub use Rattle.nm_types.specs.Frames.{bytes_of_frames}
 pub use Rattle.nm_types.specs.Ids.{lease_id}
-pub use Rattle.nm_types.specs.Limits.{most_batch}
+pub use Rattle.nm_types.specs.Limits.{buffer_bytes, most_batch}
 pub use Rattle.nm_types.specs.Names.{is_pipe_name, is_switch_port_name, peer_name}
-pub use Rattle.nm_types.specs.Sendable.{is_sendable}
+pub use Rattle.nm_types.specs.Sendable.{IsFrame, is_sendable}
 pub use Rattle.nm_types.specs.declared.id.Side.TheVariants.{Rx}
 pub use Rattle.nm_watch.specs.Watching.{monitor_of}
 pub use Rattle.std.specs.List.{range_with_len}
 pub use Rattle.std.specs.Option.{ForSome}
 pub use Rattle.vale_batch.specs.Addresses.{is_short}
-pub use Rattle.vale_batch.specs.Looking.{IsFrame, learned_of_batch, looked_up_batch, untaught_all}
+pub use Rattle.vale_batch.specs.Looking.{learned_of_batch, looked_up_batch, untaught_all}
 pub use Rattle.vale_batch.specs.Wants.{IsRising, is_lone, is_short_destination, port_number, wanted}
 pub use Rattle.vale_batch.specs.Wants.{wants_of}
 pub use Rattle.vale_entry.specs.Counters.{count_shared}

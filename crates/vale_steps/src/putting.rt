@@ -5,7 +5,7 @@ ghost use Rattle.std.specs.Prelude.{vec_capacity};
 ghost use Rattle.vale_steps.specs.Words.{ChangesSeat, Fits, FitsPart, ForSome, Frame as Packet};
 ghost use Rattle.vale_steps.specs.Words.{IsFull};
 ghost use Rattle.vale_steps.specs.Words.{IsNames, IsSingle, OfSeat, OfState, SumFits, buffers_of};
-ghost use Rattle.vale_steps.specs.Words.{bytes_of, bytes_of_frames, counts_of, frame_bytes};
+ghost use Rattle.vale_steps.specs.Words.{buffer_bytes, bytes_of, bytes_of_frames, counts_of, frame_bytes};
 ghost use Rattle.vale_steps.specs.Words.{frames_in, frames_of_items, indices_of, is_pipe_name};
 ghost use Rattle.vale_steps.specs.Words.{is_there, lease_id, leases_of, line_after_put, most_batch};
 ghost use Rattle.vale_steps.specs.Words.{open_port_of, peer_name, seat_put, space_of as line_space};
@@ -67,7 +67,7 @@ struct Taking {
 /// A buffer's index and the frame in its first bytes.
 fn item_of(alloc: Global, got: &Got) -> Result<Item, NoMemory>
     ensures item { IfOk result (λ item. item ≡ item_of got.now) }
-    ensures size { IfOk result (λ item. length item.bytes.bytes ≤ 2048) }
+    ensures size { IfOk result (λ item. length item.bytes.bytes ≤ buffer_bytes) }
 {
     let bytes = got.buf.bytes();
     let len = bytes.len().min(got.len as usize);
@@ -82,7 +82,7 @@ fn item_of(alloc: Global, got: &Got) -> Result<Item, NoMemory>
 fn items_of(alloc: Global, gots: &[Got]) -> Result<Items, NoMemory>
     ensures items { IfOk result (λ items. items ≡ items_of gots.now) }
     ensures size { IfOk result (λ items.
-        bytes_of_frames (frames_of_items items) ≤ 2048 * length gots.now) }
+        bytes_of_frames (frames_of_items items) ≤ buffer_bytes * length gots.now) }
 {
     let mut items = Vec::with_capacity(alloc, gots.len())?;
     for i in 0..gots.len() {
@@ -138,7 +138,7 @@ fn taking_of(alloc: Global, putting: Putting, pending: &[Got]) -> Result<Taking,
     requires within { putting.took ≤ length pending.now }
     ensures taking { IfOk result (IsTaking putting pending.now) }
     ensures size { IfOk result (λ taking.
-        bytes_of_frames (frames_of_items taking.items) ≤ 2048 * putting.took) }
+        bytes_of_frames (frames_of_items taking.items) ≤ buffer_bytes * putting.took) }
 {
     let items = items_of(alloc, &pending[..putting.took as usize])?;
     let copies = copies_of(alloc, putting.monitor, &items)?;

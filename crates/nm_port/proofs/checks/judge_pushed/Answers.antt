@@ -5,7 +5,7 @@ use Rattle.nm_types.specs.Positions.{step_on, slots_from}
 use Rattle.nm_types.specs.Slots.{Pushed, pushed_names}
 use Rattle.nm_types.specs.SyncChecks.{slots_refusal, slot_refusal, seen_of, is_closing, begun_after}
 use Rattle.nm_hold.specs.Holds.{buffers_of}
-use Rattle.nm_port.specs.Sides.{AreMarked, AreMarkedOf, pushed_seen_at, pushed_seen, closes}
+use Rattle.nm_port.specs.Sides.{AreMarked, AreMarkedOf, pushed_seen_at, pushed_seen}
 use Rattle.nm_port.proofs.Judging.{judged_next, judged_bad, rest-next, rest-none, rest-count, marked_more, begun_after-most}
 use Rattle.nm_port.proofs.Pushes.{user_at, seen_more, names_taken}
 use Rattle.nm_port.proofs.checks.judge_pushed.Goals as goal
@@ -28,11 +28,11 @@ pub user_slot-requires : goal.user_slot-requires
 user_slot-requires c = user_at c.args.ring.now.ring _ _ _ _ c.loop-k.k c.size-size.ensures.size c.ring.ensures.ring c.pushed-first.ensures.first c.pushed-first.ensures.count c.pushed-first.ensures.slots.ring c.requires.fits c.loop-k-test.true
 
 -- whether a frame must end in the slot that is judged
-closing_is : (f : ℕ → Pushed) (size first count k begun : ℕ) (whole closing : Bool) → closing ≡ closes whole (count - 1 - k) begun
-    → closing ≡ is_closing whole begun (drop (k + 1) (map f (slots_from size first count)))
+closing_is : (f : ℕ → Pushed) (size first count k begun : ℕ) (whole closing : Bool) → closing ≡ is_closing whole begun (count - 1 - k)
+    → closing ≡ is_closing whole begun (length (drop (k + 1) (map f (slots_from size first count))))
 closing_is f size first count k begun whole closing is =
     let same : count - 1 - k ≡ length (drop (k + 1) (map f (slots_from size first count))) = (let left = rest-count f size first count (k + 1) in omega (arith, left)) in
-    is ∙ ap (λ (n : ℕ). closes whole n begun) same
+    is ∙ ap (is_closing whole begun) same
 
 pub returns-in_err-judge_slot-clause-refusal : goal.returns-in_err-judge_slot-clause-refusal
 returns-in_err-judge_slot-clause-refusal c named well =
@@ -50,7 +50,7 @@ returns-in_err-judge_slot-clause-refusal c named well =
     let others = drop (k + 1) (map f (slots_from size first count)) in
     let closing = closing_is f size first count k begun whole c.is_closing-closing.result c.is_closing-closing.ensures in
     let told = c.in_err-judge_slot.ensures.refusal named names well c.loop-k.invariant.marked in
-    let here : slot_refusal c.args.ring.now.side (seen_of whole (buffers_of h) named names begun others x) x.at x.slot ≡ Some fault = rw closing at told in
+    let here : slot_refusal c.args.ring.now.side (seen_of (is_closing whole begun (length others)) (buffers_of h) named names x) x.at x.slot ≡ Some fault = rw closing at told in
     let bad = judged_bad c.args.ring.now.side whole (buffers_of h) named names begun x others fault here in
     let next = rest-next f size first count k c.loop-k-test.true in
     let p = err_from_is_err_and c.from_residual.result c.from_residual.ensures.1 in
@@ -85,7 +85,7 @@ loop-k-preserved c =
     let next = rest-next f size first count k c.loop-k-test.true in
     record {
       left = λ named well. (let told = c.in_ok-judge_slot.ensures.refusal named before well c.loop-k.invariant.marked in
-          let here : slot_refusal side (seen_of whole (buffers_of h) named before begun others x) x.at x.slot ≡ None = rw closing at told in
+          let here : slot_refusal side (seen_of (is_closing whole begun (length others)) (buffers_of h) named before x) x.at x.slot ≡ None = rw closing at told in
           rw (names, now) (c.loop-k.invariant.left named well
           ∙ (ap (slots_refusal side whole (buffers_of h) named before begun) next ∙ judged_next side whole (buffers_of h) named before begun x others here)));
       marked = rw (c.in_ok-judge_slot.ensures.marks, names) (marked_more c.loop-k.marks before x.slot.buf_idx c.loop-k.invariant.marked);

@@ -41,4 +41,4 @@ returns c =
     let inv = c.loop-k.invariant in
     let end : c.loop-k.k ≡ c.pushed-first.result.1 = omega (arith, c.loop-k-test.false, inv.within) in
     let all : map (slot_at r) (slots_from r.ring.size r.ring.accepted_head c.loop-k.k) ≡ slots_pushed r = rw (end, c.pushed-first.ensures.count) refl in
-    inv.frames ∙ (ap (gathered bytes [] false) all ∙ gathered-joined bytes [] None (slots_pushed r) c.requires.whole)
+    inv.frames ∙ (ap (gathered bytes [] false) all ∙ gathered-joined bytes [] None (slots_pushed r) c.requires.ends)

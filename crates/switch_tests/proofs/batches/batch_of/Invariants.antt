@@ -1,6 +1,6 @@
 use Rattle.std.proofs.Common.{◌≤◌, length}
 use Rattle.std.specs.Prelude.{All}
-use Rattle.vale_batch.specs.Looking.{IsFrame}
+use Rattle.nm_types.specs.Sendable.{IsFrame}
 use Rattle.switch_tests.proofs.batches.batch_of.Given as goal
 
 abbrev pub invariant-loop-at : goal.invariant-loop-at

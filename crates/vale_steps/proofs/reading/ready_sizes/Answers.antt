@@ -7,4 +7,4 @@ use Rattle.vale_steps.proofs.reading.ready_sizes.Goals as goal
 
 pub returns : goal.returns
 returns c =
-    of-seat (λ (seat : Seat). c.ready_sizes.new.sizes.items ≡ sizes_of (delivered_frames seat.port)) c.args.ports.now c.args.place c.index-ports-place.result c.index-ports-place.is c.ready_sizes.ensures
+    of-seat (λ (seat : Seat). c.ready_sizes.new.sizes.items ≡ sizes_of (delivered_frames seat.port)) c.args.ports.now c.args.place c.index-ports-place.result c.index-ports-place.is c.ready_sizes.ensures.sizes

@@ -7,8 +7,8 @@ use Rattle.nm_own.proofs.own.OwnSide.frames.Goals as goal
 pub fitting_ring-requires : goal.fitting_ring-requires
 fitting_ring-requires c = rw c.deref.ensures.value (passing_ring c.self.inside c.args.self.now Tx c.args.port c.self.invariant c.self.view_is c.requires.ring c.requires.passes)
 
-pub gather-requires-clause-whole : goal.gather-requires-clause-whole
-gather-requires-clause-whole c =
+pub gather-requires-clause-ends : goal.gather-requires-clause-ends
+gather-requires-clause-ends c =
     let kept = c.self.invariant in
     let ring = c.fitting_ring.result.now in
     let is = rw c.deref.ensures.value at c.fitting_ring.ensures in

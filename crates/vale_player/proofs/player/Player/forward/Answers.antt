@@ -1,6 +1,5 @@
 use Rattle.std.proofs.Common.{◌≡◌, None, sym, subst, ◌∙◌}
 use Rattle.nm_types.specs.OwnEdits.{with_forwarded}
-use Rattle.nm_own.specs.Acts.{is_whole_at}
 use Rattle.vale_own.proofs.SideEditing.{edits-keep}
 use Rattle.nm_user.specs.Sessions.{IsThere}
 use Rattle.nm_user.proofs.Written.{there-edited}
@@ -15,9 +14,8 @@ pub invariant_of-self : goal.invariant_of-self
 invariant_of-self c =
     let from = c.in-Some.here.0 in
     let to = c.in-Some-port_named.there.0 in
-    let whole = is_whole_at c.self.inside.session.own to in
     edited-keeping c.self.inside.session c.forward.new.self _ c.self.inside.kept c.forward.ensures
-    (subst (IsThere None) (sym c.forward.ensures) (there-edited (with_forwarded whole c.args.count from to) (edits-keep.forwarded whole c.args.count from to) c.self.invariant.there)) c.self.invariant
+    (subst (IsThere None) (sym c.forward.ensures) (there-edited (with_forwarded c.args.count from to) (edits-keep.forwarded c.args.count from to) c.self.invariant.there)) c.self.invariant
 
 pub returns-in-Some-port_named : goal.returns-in-Some-port_named
 returns-in-Some-port_named c =
@@ -27,5 +25,5 @@ returns-in-Some-port_named c =
     let there = c.in-Some-port_named.there in
     let act = acts.Fwd c.args.from.now c.args.to.now c.args.count in
     subst (λ (x : PlayerState). record p { session = c.forward.new.self } ≡ with_act act x) c.self.view_is
-    (acted p c.forward.new.self act (with_forwarded (is_whole_at s.own there.0) c.args.count here.0 there.0 s.own) c.forward.ensures
-    (forwards s.own c.args.from.now c.args.to.now here there c.args.count c.self.invariant.there.side.sound (sym c.port_named.ensures ∙ c.in-Some.is) (sym c.port_named-in-Some.ensures ∙ c.in-Some-port_named.is)))
+    (acted p c.forward.new.self act (with_forwarded c.args.count here.0 there.0 s.own) c.forward.ensures
+    (forwards s.own c.args.from.now c.args.to.now here there c.args.count (sym c.port_named.ensures ∙ c.in-Some.is) (sym c.port_named-in-Some.ensures ∙ c.in-Some-port_named.is)))

@@ -1,4 +1,4 @@
-use Rattle.std.proofs.Common.{◌≡◌, replicate, Some, None, true, refl, sym, subst}
+use Rattle.std.proofs.Common.{◌≡◌, replicate, Some, None, true, refl, sym, subst, length}
 use Rattle.nm_types.specs.OwnEdits.{has_room}
 use Rattle.nm_user.specs.Sessions.{SessionState, IsThere}
 use Rattle.vale_replay.specs.Tasks.{PutFrame}
@@ -30,7 +30,7 @@ returns c =
       does = subst (λ (x : PlayerState). Does x (record p { session = c.put_copies.new.self }) (replicate count (PutFrame name bytes))) c.self.view_is
           (subst (λ (s : SessionState). Does p (record p { session = s }) (replicate count (PutFrame name bytes))) own (copies-done p name bytes port here named count copies.room));
       named = subst (λ (s : SessionState). sender_named s.own name ≡ Some port) own (copies-named p name bytes port here named count);
-      some = λ has. some-copies c.args.count count port.0 bytes p.session.own copies (subst (λ (x : PlayerState). has_room x.session.own port.0 bytes ≡ true) (sym c.self.view_is) has);
+      some = λ has. some-copies c.args.count count port.0 bytes p.session.own copies (subst (λ (x : PlayerState). has_room x.session.own port.0 (length bytes) ≡ true) (sym c.self.view_is) has);
       most = copies.most;
       still = subst (λ (x : PlayerState). IsStill x (record p { session = c.put_copies.new.self })) c.self.view_is
           (subst (λ (s : SessionState). IsStill p (record p { session = s })) own (record { number = refl; names = refl; fabric = refl; fixed = refl }));
