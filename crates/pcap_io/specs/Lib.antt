@@ -3,3 +3,4 @@ pub mod Faults
 pub mod Laws
 pub mod Limits
 pub mod Written
+pub mod Rows

@@ -3,3 +3,4 @@ pub mod Counts
 pub mod Faults
 pub mod Inputs
 pub mod Outputs
+pub mod Rows

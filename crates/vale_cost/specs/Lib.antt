@@ -1,2 +1,3 @@
 pub mod Completeness
 pub mod FewFrames
+pub mod Rows

@@ -1,2 +1,3 @@
 pub mod Load
 pub mod Sheets
+pub mod Rows

@@ -7,3 +7,4 @@ pub mod Migrate
 pub mod Run
 pub mod Status
 pub mod Writing
+pub mod Rows

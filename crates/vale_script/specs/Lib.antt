@@ -11,3 +11,4 @@ pub mod Script
 pub mod Sound
 pub mod Statements
 pub mod Tables
+pub mod Rows

@@ -2,3 +2,4 @@ pub mod Fixed
 pub mod Lanes
 pub mod Pairs
 pub mod Words
+pub mod Rows
