@@ -66,9 +66,6 @@ module _ (o : Inside) (kept : IsKept o) (side : SideState) (seen : side_seen o.h
     pub receives_here : Receives o.hold ports id p p.rx
     receives_here = subst (λ (q : UserPort). Receives o.hold ports id q q.rx) (sym same_port) is_there.receives
 
-  pub one_port : (p q : UserPort) → p ≡ slice_index_or ports at p → q ≡ slice_index_or ports at q → p ≡ q
-  one_port p q first next = same_port p first ∙ sym (same_port q next)
-
   -- another port in its place stands among the same others
   pub set_there : (p : UserPort) (x : Receives o.hold ports id p p.rx) (q : UserPort) → set ports at q ≡ (others o.hold ports id p p.rx x).before ++ q ∷ (others o.hold ports id p p.rx x).behind
   set_there p x q =

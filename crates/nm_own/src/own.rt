@@ -542,12 +542,10 @@ impl OwnSide {
         requires new { IsNew self.old.own buf.index }
         ensures { HasCome port.0 buf len rest self.old self.new }
     {
-        let slot = self.ports[at].rx.ring().tail();
+        let slot = self.ports[at].rx.publish(buf.index(), len, rest);
         let mut buf = buf;
         clear_behind(&mut buf, len);
-        let idx = buf.index();
         self.hold.add_received(port, slot, buf);
-        self.ports[at].rx.publish(idx, len, rest);
     }
 
     /// What stands after a send, for a push that no check refuses: the buffers that the pushed

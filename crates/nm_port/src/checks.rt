@@ -137,17 +137,21 @@ fn is_plain(slot: &Slot) -> bool
     ensures { result ≡ true → IsPlain slot.now }
 {
     let flags = SlotFlags::from_bits_retain(slot.flags);
-    !flags.contains(SlotFlags::INDIRECT)
-        && !flags.contains(SlotFlags::MORE_FRAGMENTS)
-        && slot.len as usize <= BUFFER_BYTES
+    let is_long = slot.len as usize > BUFFER_BYTES;
+    !(flags.contains(SlotFlags::INDIRECT) | flags.contains(SlotFlags::MORE_FRAGMENTS) | is_long)
 }
 
-/// Whether neither the marks nor the length of any of some transmit slots refuse it.
+/// Whether neither the marks nor the length of any of some transmit slots refuse it. Looks at all of
+/// them without a stop, so that several are looked at at once.
 fn are_plain(slots: &[Slot]) -> bool
     ensures { result ≡ true → (j : ℕ) → j < length slots.now
         → IsPlain (slice_index_or slots.now j blank_slot) }
 {
-    slots.iter().all(|slot| is_plain(slot))
+    let mut are_plain = true;
+    for k in 0..slots.len() {
+        are_plain &= is_plain(&slots[k]);
+    }
+    are_plain
 }
 
 /// Whether neither the marks nor the length of any pushed slot of a transmit ring refuse it.

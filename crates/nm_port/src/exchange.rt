@@ -8,7 +8,7 @@ ghost use Rattle.nm_port.specs.Exchanges.{CanExchange, AreExchanged, pushed_coun
 ghost use Rattle.nm_port.specs.Exchanges.{tx_places, ArePushedOut, ring_pushed_out, CanAccept};
 
 use crate::checks::place_on;
-use crate::kept::kept_count;
+use crate::kept::{is_kept, kept_count};
 use crate::port::UserPort;
 use crate::slot_ring::SlotRing;
 use nm_hold::{Hold, step_on};
@@ -16,6 +16,17 @@ use nm_types::PortId;
 
 /// Exchanges, for each pushed slot in order, the buffer in its place and the one that it names.
 pub(crate) fn exchange_pushed(hold: &mut Hold, port: PortId, ring: &SlotRing)
+    requires can { CanExchange hold.old port ring.now }
+    requires ring { IsRing ring.now.ring }
+    ensures { AreExchanged hold.old hold.new port ring.now (pushed_count_of ring.now) }
+{
+    if !is_kept(hold, port, ring) {
+        exchange_changed(hold, port, ring);
+    }
+}
+
+/// Does what `exchange_pushed` does, where a slot may name another buffer.
+fn exchange_changed(hold: &mut Hold, port: PortId, ring: &SlotRing)
     requires can { CanExchange hold.old port ring.now }
     requires ring { IsRing ring.now.ring }
     ensures { AreExchanged hold.old hold.new port ring.now (pushed_count_of ring.now) }

@@ -1,4 +1,4 @@
-ghost use Rattle.std.specs.Prelude.{◌≡◌, ◌<◌, IfOk, OnOk, false, length, take, true, []};
+ghost use Rattle.std.specs.Prelude.{◌≡◌, ◌<◌, ◌≤◌, IfOk, OnOk, drop, false, length, take, true, []};
 ghost use Rattle.nm_port.specs.Words.{FitsRing, has_flag, no_learn};
 ghost use Rattle.nm_port.specs.Gathered.{gathered, goes_on_behind, slots_pushed, with_gathered};
 ghost use Rattle.nm_port.specs.Sides.{names_pushed};
@@ -65,7 +65,7 @@ fn gather_slot(hold: &Hold, slot: &Slot, begun: bool, batch: &mut Batch) -> Resu
 
 /// Adds the frames of slots. Returns whether the last of them goes on.
 #[inline(never)]
-fn gather_slots(
+fn gather_parts(
     hold: &Hold,
     slots: &[Slot],
     begun: bool,
@@ -83,6 +83,45 @@ fn gather_slots(
         open = goes_on(&slots[i]);
     }
     Ok(open)
+}
+
+/// Adds the frames of the first slots, up to one whose frame goes on in the next. Returns how many.
+fn gather_whole(hold: &Hold, slots: &[Slot], batch: &mut Batch) -> Result<usize, NoMemory>
+    ensures few { IfOk result (λ count. count ≤ length slots.now) }
+    ensures frames { IfOk result (λ count.
+        gathered (bytes_in_hold hold.now) batch.new false (drop count slots.now)
+        ≡ gathered (bytes_in_hold hold.now) batch.old false slots.now) }
+    ensures begun { IfOk result (λ count.
+        goes_on_behind false (drop count slots.now) ≡ goes_on_behind false slots.now) }
+{
+    for i in 0..slots.len() {
+        if goes_on(&slots[i]) {
+            return Ok(i);
+        }
+        batch.push(frame_bytes(hold, &slots[i]), is_not_learned(&slots[i]))?;
+    }
+    Ok(slots.len())
+}
+
+/// Does what `gather_parts` does. Frames in one slot each are added by a loop of their own.
+#[inline(never)]
+fn gather_slots(
+    hold: &Hold,
+    slots: &[Slot],
+    begun: bool,
+    batch: &mut Batch,
+) -> Result<bool, NoMemory>
+    requires { begun ≡ true → 0 < length batch.old }
+    ensures frames { OnOk result (batch.new
+        ≡ gathered (bytes_in_hold hold.now) batch.old begun slots.now) }
+    ensures begun { IfOk result (λ goes_on. goes_on ≡ goes_on_behind begun slots.now) }
+    ensures some { IfOk result (λ goes_on. goes_on ≡ true → 0 < length batch.new) }
+{
+    if begun {
+        return gather_parts(hold, slots, true, batch);
+    }
+    let whole = gather_whole(hold, slots, batch)?;
+    gather_parts(hold, &slots[whole..], false, batch)
 }
 
 /// The frames of the pushed slots, all of which end there.

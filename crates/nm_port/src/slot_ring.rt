@@ -1,6 +1,7 @@
 ghost use Rattle.std.specs.Prelude.{ℕ, ◌≡◌, ◌<◌, ◌≤◌, ◌++◌, ◌∷◌, [], None, Some, IfSome, IfOk};
 ghost use Rattle.std.specs.Prelude.{option_map, drop, length, map, min, slice_index_or, false, true};
 ghost use Rattle.std.specs.Prelude.{◌+◌, ◌-◌};
+ghost use Rattle.nm_types.specs.Limits.{most_ring};
 ghost use Rattle.nm_port.specs.Words.{FitsRing, IsRing, IsRingSize, Rx, Tx, accepted, blank_slot};
 ghost use Rattle.nm_port.specs.Words.{deque_capacity, dist, index_of, indices_of, is_user_slot};
 ghost use Rattle.nm_port.specs.Words.{opened_rx, opened_slot, opened_tx, option_copied};
@@ -66,6 +67,17 @@ fn dist(size: u32, from: u32, to: u32) -> u32
     } else {
         ((to as u64 + (size - from) as u64) % size as u64) as u32
     }
+}
+
+/// The position after one of a ring.
+#[tactic(auto, using(nm_hold::proofs::Turns::turns))]
+fn after(size: u32, at: u32) -> u32
+    requires size { size ≤ most_ring }
+    requires within { at < size }
+    ensures { result ≡ step_on size at 1 }
+{
+    let next = at + 1;
+    if next == size { 0 } else { next }
 }
 
 /// Accepts a ring's own positions, which fit. The tail stays.
@@ -283,7 +295,7 @@ impl SlotRing {
         let slot = &mut self.slots[at as usize];
         let idx = slot.buf_idx;
         *slot = framed(*slot, len);
-        let next = self.next(at);
+        let next = after(self.ring.size(), at);
         self.put_positions(next, next);
         idx
     }
@@ -469,18 +481,20 @@ impl SlotRing {
     }
 
     /// Publishes a part of a received frame, behind which `rest` parts follow, in the slot at the tail of
-    /// a receive ring whose head is accepted.
-    pub fn publish(&mut self, buffer: u32, len: u16, rest: u8)
+    /// a receive ring whose head is accepted. Answers that slot.
+    pub fn publish(&mut self, buffer: u32, len: u16, rest: u8) -> u32
         requires side { self.old.side ≡ Rx }
         requires fits { FitsRing self.old.ring self.old.ring.head self.old.ring.cur }
         requires accepted { self.old.ring.accepted_head ≡ self.old.ring.head }
         requires room { 0 < count_behind_tail self.old.ring }
-        ensures { self.new ≡ record self.old {
+        ensures slot { result ≡ self.old.ring.last_tail }
+        ensures ring { self.new ≡ record self.old {
           ring = accepted 1 self.old.ring;
           slots = self.old.slots ++ published_slot buffer len rest ∷ [];
         } }
     {
-        let tail = step_on(self.ring.size(), self.ring.tail(), 1);
+        let slot = self.ring.tail();
+        let tail = after(self.ring.size(), slot);
         self.ring.advance(self.ring.head(), self.ring.cur(), tail);
         self.slots.push_back_reserved(Slot {
             buf_idx: buffer,
@@ -488,6 +502,7 @@ impl SlotRing {
             flags: part_flags(rest),
             ptr: 0,
         });
+        slot
     }
 
     /// Resets one of the user's slots: it names the buffer in its place.

@@ -56,15 +56,22 @@ pub fn goes_on(slot: &Slot) -> bool
     SlotFlags::from_bits_retain(slot.flags).contains(SlotFlags::MORE_FRAGMENTS)
 }
 
-/// The flags of a slot with a part of a received frame, behind which `rest` parts follow.
+/// The flags of a slot with the last part of a received frame, or with a part behind which `rest`
+/// parts follow.
 pub(crate) fn part_flags(rest: u8) -> u16
     ensures { result ≡ part_flags rest }
 {
-    if rest == 0 {
-        0
-    } else {
-        SlotFlags::MORE_FRAGMENTS.bits() + 256 * u16::from(rest)
-    }
+    if rest == 0 { 0 } else { rest_flags(rest) }
+}
+
+/// The flags of a slot with a part of a received frame behind which others follow. It stands apart so
+/// that a frame in one slot passes a branch alone.
+#[inline(never)]
+fn rest_flags(rest: u8) -> u16
+    requires { 0 < rest }
+    ensures { result ≡ part_flags rest }
+{
+    SlotFlags::MORE_FRAGMENTS.bits() + 256 * u16::from(rest)
 }
 
 /// Clears the announcement of a pushed slot.
@@ -83,13 +90,18 @@ fn announces(slot: &Slot) -> bool
     flags.difference(SlotFlags::BUF_CHANGED).bits() != slot.flags
 }
 
-/// Whether one of some slots announces a changed buffer.
+/// Whether one of some slots announces a changed buffer. Looks at all of them without a stop, so that
+/// several are looked at at once.
 pub(crate) fn any_announces(slots: &[Slot]) -> bool
     ensures { result ≡ false → (j : ℕ) → j < length slots.now
         → slot_after_push (slice_index_or slots.now j blank_slot)
         ≡ slice_index_or slots.now j blank_slot }
 {
-    slots.iter().any(|slot| announces(slot))
+    let mut announced = false;
+    for k in 0..slots.len() {
+        announced |= announces(&slots[k]);
+    }
+    announced
 }
 
 /// Clears the announcements of `count` slots from a position on, going round, if one of them

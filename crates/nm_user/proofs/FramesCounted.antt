@@ -1,8 +1,8 @@
 -- How many frames lie in received buffers.
-use Rattle.std.proofs.Common.{ℕ, suc, ◌≡◌, ◌≤◌, ◌+◌, true, false, cond, List, [], ◌∷◌, ◌++◌, length, refl, sym, ◌∙◌, ap, subst, inl, inr, arith}
+use Rattle.std.proofs.Common.{ℕ, suc, ◌≡◌, ◌+◌, cond, List, [], ◌∷◌, ◌++◌, length, refl, ◌∙◌, inl, inr, arith}
 use Rattle.std.specs.Prelude.{count_by}
 use Rattle.std.proofs.lemmas.Bool.{cases_Bool}
-use Rattle.std.proofs.lemmas.List.Sums.{sum_by-cons, count_by-le-length}
+use Rattle.std.proofs.lemmas.List.Sums.{sum_by-cons}
 use Rattle.vale_line.specs.declared.got.Got.{Got}
 use Rattle.vale_line.specs.Gots.{frames_behind, frames_in, is_last, part_in}
 
@@ -21,8 +21,3 @@ counted-behind begun (got ∷ gots) = sum_by-cons (λ (x : Got). cond (is_last x
 
 pub frames-counted : (gots : List Got) → count_by is_last gots ≡ length (frames_in gots)
 frames-counted gots = counted-behind [] gots
-
-pub frames-few : (gots : List Got) → length (frames_in gots) ≤ length gots
-frames-few gots = subst (λ (n : ℕ). n ≤ length gots) (frames-counted gots) (count_by-le-length is_last gots)
-
-pub ruleset counted = (frames-counted, frames-few)

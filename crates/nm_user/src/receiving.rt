@@ -1,7 +1,7 @@
 //! A receive sync: the buffers of the pushed slots go back, and what was granted to the port is
 //! published in its ring.
 ghost use Rattle.std.specs.Prelude.{ℕ, true, ◌≡◌, ◌≤◌, ◌<◌, ◌^◌, [], length, take, fold};
-ghost use Rattle.std.specs.Prelude.{count_by};
+ghost use Rattle.std.specs.Prelude.{cond};
 ghost use Rattle.std.specs.Prelude.{IsSome, IfSome, IfOk, IfErr, OnOk, OnErr, Some, None};
 ghost use Rattle.nm_user.specs.Words.{AllOf, AreOf, IsBufferOf, IsNew, IsPassIn, IsRead, MayIn};
 ghost use Rattle.nm_user.specs.Words.{RefusesIn, Rx, back_on, buffers_of, can_receive};
@@ -104,20 +104,11 @@ fn give_and_take<R: Wait>(
     }
 }
 
-/// How many received buffers are the last ones of their frames.
-fn last_count(gots: &[Got]) -> usize
-    ensures { result ≡ count_by is_last gots.now }
+/// One, if a received buffer is the last one of its frame, and else none.
+fn last_count(got: &Got) -> u32
+    ensures { result ≡ cond (is_last got.now) 1 0 }
 {
-    gots.iter().filter(|got| got.rest == 0).count()
-}
-
-/// How many frames lie in received buffers: each ends in the last of its own.
-#[tactic(auto, using(crate::proofs::FramesCounted::counted))]
-fn frame_count(gots: &[Got]) -> u32
-    requires { length gots.now < 2 ^ 32 }
-    ensures { result ≡ length (frames_in gots.now) }
-{
-    last_count(gots) as u32
+    if got.rest == 0 { 1 } else { 0 }
 }
 
 /// How many bytes of a received buffer are a part of a frame.
@@ -142,21 +133,27 @@ fn publish(own: &mut OwnSide, at: usize, port: PortId, got: Got)
     own.receive_at(at, port, got.into_buf(), len, rest);
 }
 
-/// Publishes parts of frames in their order.
+/// Publishes parts of frames in their order. Answers how many frames they are: each ends in the last of
+/// its own.
 #[inline(never)]
-fn publish_all(own: &mut OwnSide, port: PortId, mut gots: Vec<Got>)
+fn publish_all(own: &mut OwnSide, port: PortId, gots: Vec<Got>) -> u32
     requires come { CanCome port.0 own.old.own (arrivals_in gots.items) }
+    requires few { length gots.items < 2 ^ 32 }
+    ensures count { result ≡ length (frames_in gots.items) }
     ensures own { own.new.own
         ≡ fold (own_with_arrival port.0) own.old.own (arrivals_in gots.items) }
     ensures region { (region : ℕ) → AllOf region own.old → AreOf region (buffers_of gots.items)
         → AllOf region own.new }
 {
     let at = own.place_of(port);
-    gots.reverse();
-    while let Some(got) = gots.pop() {
+    let mut coming = gots.into_iter();
+    let mut count = 0;
+    while let Some(got) = coming.next() {
+        count += last_count(&got);
         publish(own, at, port, got);
     }
-    gots.destroy_empty();
+    coming.destroy_empty();
+    count
 }
 
 /// Puts an own side back that was away.
@@ -231,11 +228,11 @@ impl<'f> Session<'f> {
                 return Err(fault);
             }
         };
-        let (entry, gave) = (offers.entry(), frame_count(&got));
+        let entry = offers.entry();
         let frames = Frames::Gots(&got);
         self.fabric
             .settle(rt, &mut self.pass, gate, self.user, offers, frames);
-        publish_all(&mut own, port, got);
+        let gave = publish_all(&mut own, port, got);
         put_back(&mut self.own, own);
         Ok(Received {
             entry,

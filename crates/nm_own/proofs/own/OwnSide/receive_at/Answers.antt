@@ -1,13 +1,12 @@
-use Rattle.std.proofs.Common.{ℕ, ◌≡◌, ◌++◌, ◌∷◌, ◌∙◌, true, set, take, Some, if◌then◌else◌, refl, ap}
+use Rattle.std.proofs.Common.{ℕ, ◌≡◌, ◌++◌, ◌∷◌, ◌∙◌, true, set, take, Some, if◌then◌else◌, refl, sym, ap}
 use Rattle.nm_types.specs.declared.place.Place.{Place}
 use Rattle.nm_types.specs.declared.place.Place.TheVariants as place
 use Rattle.nm_types.specs.Places.{is_same_place}
-use Rattle.nm_types.specs.Positions.{RingState}
 use Rattle.nm_types.specs.Buffers.{IsBufferIndex, cleared_but}
 use Rattle.nm_types.specs.OwnPorts.{Arrival}
 use Rattle.nm_region.specs.Buffers.{Buffer}
 use Rattle.nm_hold.specs.Offsets.{has_place}
-use Rattle.nm_hold.specs.Holds.{buffers_of, index_at, with_cell}
+use Rattle.nm_hold.specs.Holds.{buffers_of, index_at, standing_at, with_cell}
 use Rattle.nm_port.specs.declared.port.UserPort.{UserPort}
 use Rattle.nm_port.specs.RingSlots.{RingSlots}
 use Rattle.nm_port.specs.Own.{own_seen}
@@ -18,53 +17,55 @@ use Rattle.nm_port.specs.Regions.{SideState}
 use Rattle.nm_port.proofs.Regions.{of_seen, holds_added}
 use Rattle.nm_own.proofs.OnePort.{kept_with}
 use Rattle.nm_own.proofs.Published.{Receives, belongs, empty, others, with_frame, changes, received_is_seen}
-use Rattle.nm_own.proofs.ReceivedAt.{within, receives_here, set_there, one_port}
+use Rattle.nm_own.proofs.ReceivedAt.{within, receives_here, set_there}
+use Rattle.nm_own.proofs.Readied.{away_of}
 use Rattle.nm_own.proofs.RxPlaces.{with_rx}
 use Rattle.nm_own.proofs.own.OwnSide.receive_at.Goals as goal
-use Rattle.nm_own.proofs.own.OwnSide.receive_at.Goals.{After-index, After-index_mut, After-tail-slot}
-
-pub index-requires : goal.index-requires
-index-requires c = within c.self.inside c.self.invariant c.args.self.now c.self.view_is c.args.port c.args.at c.requires.place c.requires.room
+use Rattle.nm_own.proofs.own.OwnSide.receive_at.Goals.{After-index_mut, After-publish-slot}
 
 pub index_mut-requires : goal.index_mut-requires
 index_mut-requires c = within c.self.inside c.self.invariant c.args.self.now c.self.view_is c.args.port c.args.at c.requires.place c.requires.room
 
 -- the port has a free slot, at its tail
-receives : (c : After-index) → Receives c.self.inside.hold c.self.inside.ports.items c.args.port c.index.result.now c.index.result.now.rx
-receives c = receives_here c.self.inside c.self.invariant c.args.self.now c.self.view_is c.args.port c.args.at c.requires.place c.requires.room c.index.result.now c.index.ensures
+receives : (c : After-index_mut) → Receives c.self.inside.hold c.self.inside.ports.items c.args.port c.index_mut.result.now c.index_mut.result.now.rx
+receives c = receives_here c.self.inside c.self.invariant c.args.self.now c.self.view_is c.args.port c.args.at c.requires.place c.requires.room c.index_mut.result.now c.index_mut.ensures.value
 
-at_tail : (c : After-tail-slot) → c.tail-slot.result ≡ c.index.result.now.rx.ring.last_tail
-at_tail c = c.tail-slot.ensures.tail ∙ (ap (λ (ring : RingState). ring.tail) c.ring.ensures.ring ∙ c.ring.ensures.slots.ring.one_tail)
+at_tail : (c : After-publish-slot) → c.publish-slot.result ≡ c.index_mut.result.now.rx.ring.last_tail
+at_tail c = c.publish-slot.ensures.slot
 
-still_receives : (c : After-index_mut) → Receives c.self.inside.hold c.self.inside.ports.items c.args.port c.index_mut.result.now c.index_mut.result.now.rx
-still_receives c = receives_here c.self.inside c.self.invariant c.args.self.now c.self.view_is c.args.port c.args.at c.requires.place c.requires.room c.index_mut.result.now c.index_mut.ensures.value
+pub publish-slot-requires-clause-side : goal.publish-slot-requires-clause-side
+publish-slot-requires-clause-side c = (receives (goal.at.publish-slot-requires-clause-side c).After-index_mut).room.side
+
+pub publish-slot-requires-clause-fits : goal.publish-slot-requires-clause-fits
+publish-slot-requires-clause-fits c = (receives (goal.at.publish-slot-requires-clause-fits c).After-index_mut).room.fits
+
+pub publish-slot-requires-clause-accepted : goal.publish-slot-requires-clause-accepted
+publish-slot-requires-clause-accepted c = (receives (goal.at.publish-slot-requires-clause-accepted c).After-index_mut).room.accepted
+
+pub publish-slot-requires-clause-room : goal.publish-slot-requires-clause-room
+publish-slot-requires-clause-room c = (receives (goal.at.publish-slot-requires-clause-room c).After-index_mut).room.free
 
 pub add_received-requires-clause-belongs : goal.add_received-requires-clause-belongs
 add_received-requires-clause-belongs c =
     let h = c.self.inside.hold in
     let to = goal.at.add_received-requires-clause-belongs c in
-    ap (λ (n : ℕ). has_place h.ports (place.Rx c.args.port n)) (at_tail to.After-tail-slot) ∙ belongs h c.self.inside.ports.items c.args.port c.index.result.now c.index.result.now.rx (receives to.After-index)
+    ap (λ (n : ℕ). has_place h.ports (place.Rx c.args.port n)) (at_tail to.After-publish-slot) ∙ belongs h c.self.inside.ports.items c.args.port c.index_mut.result.now c.index_mut.result.now.rx (receives to.After-index_mut)
 
 pub add_received-requires-clause-empty : goal.add_received-requires-clause-empty
 add_received-requires-clause-empty c =
     let h = c.self.inside.hold in
     let to = goal.at.add_received-requires-clause-empty c in
-    ap (λ (n : ℕ). index_at h (place.Rx c.args.port n)) (at_tail to.After-tail-slot) ∙ empty h c.self.inside.ports.items c.args.port c.index.result.now c.index.result.now.rx (receives to.After-index)
+    ap (λ (n : ℕ). index_at h (place.Rx c.args.port n)) (at_tail to.After-publish-slot) ∙ empty h c.self.inside.ports.items c.args.port c.index_mut.result.now c.index_mut.result.now.rx (receives to.After-index_mut)
 
-pub publish-requires-clause-side : goal.publish-requires-clause-side
-publish-requires-clause-side c = (still_receives (goal.at.publish-requires-clause-side c).After-index_mut).room.side
-
-pub publish-requires-clause-fits : goal.publish-requires-clause-fits
-publish-requires-clause-fits c = (still_receives (goal.at.publish-requires-clause-fits c).After-index_mut).room.fits
-
-pub publish-requires-clause-accepted : goal.publish-requires-clause-accepted
-publish-requires-clause-accepted c = (still_receives (goal.at.publish-requires-clause-accepted c).After-index_mut).room.accepted
-
-pub publish-requires-clause-room : goal.publish-requires-clause-room
-publish-requires-clause-room c = (still_receives (goal.at.publish-requires-clause-room c).After-index_mut).room.free
+pub add_received-requires-clause-apart : goal.add_received-requires-clause-apart
+add_received-requires-clause-apart c =
+    let o = c.self.inside in
+    let new_index : IsNew (own_seen o.hold o.ports.items) c.args.buf.index = rw (← c.self.view_is) at c.requires.new in
+    let number : c.clear_behind.new.buf.index ≡ c.args.buf.index = ap (λ (b : Buffer). b.index) c.clear_behind.ensures.cleared in
+    ap (standing_at o.hold) number ∙ away_of o.hold o.ports.items c.args.buf.index c.self.invariant.whole new_index.1
 
 -- what is known once the frame is published
-record Step (c : goal.After-self-1) : Type 0 where
+record Step (c : goal.After-add_received) : Type 0 where
   receives : Receives c.self.inside.hold c.self.inside.ports.items c.args.port c.index_mut.result.now c.index_mut.result.now.rx
   cleared : c.clear_behind.new.buf.bytes ≡ cleared_but (take c.args.len c.args.buf.bytes)
   number : c.clear_behind.new.buf.index ≡ c.args.buf.index
@@ -72,13 +73,11 @@ record Step (c : goal.After-self-1) : Type 0 where
   cell : c.add_received.new.self ≡ with_cell c.self.inside.hold c.clear_behind.new.buf.index (Some (placed (place.Rx c.args.port c.index_mut.result.now.rx.ring.last_tail) true c.clear_behind.new.buf))
   places : (q : Place) → index_at c.add_received.new.self q ≡ (if is_same_place (place.Rx c.args.port c.index_mut.result.now.rx.ring.last_tail) q then Some c.clear_behind.new.buf.index else index_at c.self.inside.hold q)
 
-step : (c : goal.After-self-1) → Step c
+step : (c : goal.After-add_received) → Step c
 step c =
     let o = c.self.inside in
-    let p = c.index.result.now in
-    let same : p ≡ c.index_mut.result.now = one_port o c.self.invariant c.args.self.now c.self.view_is c.args.port c.args.at c.requires.place c.requires.room p c.index_mut.result.now c.index.ensures c.index_mut.ensures.value in
-    let tail : c.tail-slot.result ≡ c.index_mut.result.now.rx.ring.last_tail =
-    c.tail-slot.ensures.tail ∙ (ap (λ (ring : RingState). ring.tail) c.ring.ensures.ring ∙ (c.ring.ensures.slots.ring.one_tail ∙ ap (λ (q : UserPort). q.rx.ring.last_tail) same)) in
+    let p = c.index_mut.result.now in
+    let tail : c.publish-slot.result ≡ p.rx.ring.last_tail = c.publish-slot.ensures.slot in
     let new_index : IsNew (own_seen o.hold o.ports.items) c.args.buf.index = rw (← c.self.view_is) at c.requires.new in
     let number : c.clear_behind.new.buf.index ≡ c.args.buf.index = ap (λ (b : Buffer). b.index) c.clear_behind.ensures.cleared in
     record {
@@ -91,15 +90,15 @@ step c =
     }
 
 -- the port that has the frame, and the ports with it
-abbrev framed : (c : goal.After-self-1) → UserPort
+abbrev framed : (c : goal.After-add_received) → UserPort
 framed c = with_frame c.self.inside.hold c.self.inside.ports.items c.args.port c.index_mut.result.now c.index_mut.result.now.rx (step c).receives c.add_received.new.self c.clear_behind.new.buf (take c.args.len c.args.buf.bytes) c.args.len c.args.rest (step c).cleared c.requires.len c.clear_behind.ensures.size (step c).index (step c).cell (step c).places c.add_received.ensures.hold
 
-ports_are : (c : goal.After-self-1) → set c.self.inside.ports.items c.args.at (with_rx c.index_mut.result.now c.publish.new.self)
+ports_are : (c : goal.After-add_received) → set c.self.inside.ports.items c.args.at (with_rx c.index_mut.result.now c.publish-slot.new.self)
     ≡ (others c.self.inside.hold c.self.inside.ports.items c.args.port c.index_mut.result.now c.index_mut.result.now.rx (step c).receives).before
     ++ framed c ∷ (others c.self.inside.hold c.self.inside.ports.items c.args.port c.index_mut.result.now c.index_mut.result.now.rx (step c).receives).behind
 ports_are c =
     let p = c.index_mut.result.now in
-    let moved : c.publish.new.self ≡ ring_published c.clear_behind.new.buf.index c.args.len c.args.rest p.rx = c.publish.ensures ∙ ap (λ (n : ℕ). ring_published n c.args.len c.args.rest p.rx) c.index-idx.ensures in
+    let moved : c.publish-slot.new.self ≡ ring_published c.clear_behind.new.buf.index c.args.len c.args.rest p.rx = c.publish-slot.ensures.ring ∙ ap (λ (n : ℕ). ring_published n c.args.len c.args.rest p.rx) (c.index.ensures ∙ sym (step c).number) in
     ap (λ (r : RingSlots). set c.self.inside.ports.items c.args.at (with_rx p r)) moved
     ∙ set_there c.self.inside c.self.invariant c.args.self.now c.self.view_is c.args.port c.args.at c.requires.place c.requires.room p (step c).receives (framed c)
 

@@ -19,7 +19,7 @@ invariant_of-self c =
     let room : 0 < ring.size - 1 - dist ring.size ring.head ring.last_tail = rw (← c.self.view_is) at c.requires.room in
     let last : ring.last_tail < ring.size = omega (arith, old.ring.within, old.ring.one_tail) in
     let new : c.advance.new.self ≡ advanced ring ring.head ring.cur (step_on ring.size ring.last_tail 1) =
-    rw (c.advance.ensures, c.head.ensures, c.cur.ensures, c.step_on-tail.ensures, c.size.ensures.size, c.tail.ensures.tail, old.ring.one_tail) refl in
+    rw (c.advance.ensures, c.head.ensures, c.cur.ensures, c.after-tail.ensures, c.size.ensures.size, c.tail-slot.ensures.tail, old.ring.one_tail) refl in
     let farther = dist-add ring.size ring.head ring.last_tail 1 fits.head_within last (omega arith) in
     let all : length slots ≡ dist ring.size ring.accepted_head ring.last_tail = old.count ∙ ap (λ (side : Side). slot_count side ring) rx in
     let same : dist ring.size ring.accepted_head ring.last_tail ≡ dist ring.size ring.head ring.last_tail = ap (λ (at : ℕ). dist ring.size at ring.last_tail) here in

@@ -3,7 +3,7 @@ use Rattle.nm_port.specs.RingSlots.{slot_at}
 use Rattle.nm_port.specs.Exchanges.{pushed_count_of, user_position, user_place}
 use Rattle.nm_port.proofs.Pushes.{user_at}
 use Rattle.nm_port.proofs.Exchanged.{held_now, named_now, exchanged_next}
-use Rattle.nm_port.proofs.exchange.exchange_pushed.Goals as goal
+use Rattle.nm_port.proofs.exchange.exchange_changed.Goals as goal
 
 pub user_slot-requires : goal.user_slot-requires
 user_slot-requires c = user_at c.args.ring.now.ring _ _ _ _ c.loop-k.k c.size-size.ensures.size c.ring.ensures.ring c.pushed-first.ensures.first c.pushed-first.ensures.count c.requires.ring c.requires.can.fits c.loop-k-test.true

@@ -1,7 +1,7 @@
 use Rattle.std.proofs.Common.{◌≡◌, ◌<◌, true, length, drop}
 use Rattle.nm_port.specs.Own.{bytes_in_hold}
 use Rattle.nm_port.specs.Gathered.{gathered, goes_on_behind}
-use Rattle.nm_port.proofs.gather.gather_slots.Given as goal
+use Rattle.nm_port.proofs.gather.gather_parts.Given as goal
 
 abbrev pub invariant-loop-i : goal.invariant-loop-i
 invariant-loop-i l = record {
