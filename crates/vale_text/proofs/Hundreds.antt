@@ -9,14 +9,14 @@ use Rattle.vale_text.specs.Placed.{Placed, AreHundreds}
 use Rattle.vale_text.proofs.Places.{placed-then, placed-less}
 use Rattle.std.proofs.lemmas.Fmt.{decimal_digit, length-decimal-le}
 use Rattle.vale_text.proofs.Pairs.{two_digits, two-at, decimal_two, decimal_pair}
-use Rattle.vale_text.specs.declared.numerals.TheConstants.{HEADS}
+use Rattle.vale_text.specs.declared.numerals.TheConstants.{NUMBERS}
 
 -- the hundreds of one digit
 abbrev are_ones : ℕ → Bool
 are_ones zero = true
-are_ones (suc p) = (eqb (get_or HEADS (p * 4) 0) 44 && (eqb (get_or HEADS (p * 4 + 1) 0) (48 + p) && eqb (get_or HEADS (p * 4 + 3) 0) 4)) && are_ones p
+are_ones (suc p) = (eqb (get_or NUMBERS (p * 4) 0) 44 && (eqb (get_or NUMBERS (p * 4 + 1) 0) (48 + p) && eqb (get_or NUMBERS (p * 4 + 3) 0) 4)) && are_ones p
 
-ones : (n p : ℕ) → T (are_ones n) → p < n → (get_or HEADS (p * 4) 0 ≡ 44) × (get_or HEADS (p * 4 + 1) 0 ≡ 48 + p) × (get_or HEADS (p * 4 + 3) 0 ≡ 4)
+ones : (n p : ℕ) → T (are_ones n) → p < n → (get_or NUMBERS (p * 4) 0 ≡ 44) × (get_or NUMBERS (p * 4 + 1) 0 ≡ 48 + p) × (get_or NUMBERS (p * 4 + 3) 0 ≡ 4)
 ones zero p t h = absurd (omega arith)
 ones (suc n) p t h =
     elim (eq-zero-or-pos (n - p)) [
@@ -32,13 +32,13 @@ ones (suc n) p t h =
 abbrev are_twos : ℕ → Bool
 are_twos zero = true
 are_twos (suc k) =
-    (eqb (get_or HEADS (k * 4 + 40) 0) 44
-    && (eqb (get_or HEADS (k * 4 + 41) 0) (48 + (k + 10) / 10)
-    && (eqb (get_or HEADS (k * 4 + 42) 0) (48 + (k + 10) % 10) && eqb (get_or HEADS (k * 4 + 43) 0) 5)))
+    (eqb (get_or NUMBERS (k * 4 + 40) 0) 44
+    && (eqb (get_or NUMBERS (k * 4 + 41) 0) (48 + (k + 10) / 10)
+    && (eqb (get_or NUMBERS (k * 4 + 42) 0) (48 + (k + 10) % 10) && eqb (get_or NUMBERS (k * 4 + 43) 0) 5)))
     && are_twos k
 
 twos : (n k : ℕ) → T (are_twos n) → k < n
-    → (get_or HEADS (k * 4 + 40) 0 ≡ 44) × (get_or HEADS (k * 4 + 41) 0 ≡ 48 + (k + 10) / 10) × (get_or HEADS (k * 4 + 42) 0 ≡ 48 + (k + 10) % 10) × (get_or HEADS (k * 4 + 43) 0 ≡ 5)
+    → (get_or NUMBERS (k * 4 + 40) 0 ≡ 44) × (get_or NUMBERS (k * 4 + 41) 0 ≡ 48 + (k + 10) / 10) × (get_or NUMBERS (k * 4 + 42) 0 ≡ 48 + (k + 10) % 10) × (get_or NUMBERS (k * 4 + 43) 0 ≡ 5)
 twos zero k t h = absurd (omega arith)
 twos (suc n) k t h =
     elim (eq-zero-or-pos (n - k)) [
@@ -63,16 +63,16 @@ three-at (x ∷ xs) (suc i) h =
 
 -- what the table says of some hundreds
 record IsHead (p : ℕ) : Type 0 where
-  spelled : take (get_or HEADS (p * 4 + 3) 0 - 2) (drop (p * 4) HEADS) ≡ 44 ∷ decimal p
-  long : get_or HEADS (p * 4 + 3) 0 ≡ 3 + length (decimal p)
-  short : get_or HEADS (p * 4 + 3) 0 ≤ 18
+  spelled : take (get_or NUMBERS (p * 4 + 3) 0 - 2) (drop (p * 4) NUMBERS) ≡ 44 ∷ decimal p
+  long : get_or NUMBERS (p * 4 + 3) 0 ≡ 3 + length (decimal p)
+  short : get_or NUMBERS (p * 4 + 3) 0 ≤ 18
 
 one-head : (p : ℕ) → p < 10 → IsHead p
 one-head p few =
     let at = ones 10 p tt few in
     let digit = decimal_digit p few in
     record {
-      spelled = ap (λ (n : ℕ). take (n - 2) (drop (p * 4) HEADS)) at.2 ∙ two-at HEADS (p * 4) (omega (arith, few)) ∙ (λ i. at.0 i ∷ at.1 i ∷ []) ∙ ap (λ (t : List ℕ). 44 ∷ t) (sym digit);
+      spelled = ap (λ (n : ℕ). take (n - 2) (drop (p * 4) NUMBERS)) at.2 ∙ two-at NUMBERS (p * 4) (omega (arith, few)) ∙ (λ i. at.0 i ∷ at.1 i ∷ []) ∙ ap (λ (t : List ℕ). 44 ∷ t) (sym digit);
       long = at.2 ∙ ap (λ (t : List ℕ). 3 + length t) (sym digit);
       short = omega (arith, at.2);
     }
@@ -84,13 +84,13 @@ two-head k few =
     let one : (k + 10) * 4 + 1 ≡ k * 4 + 41 = omega arith in
     let two : (k + 10) * 4 + 2 ≡ k * 4 + 42 = omega arith in
     let three : (k + 10) * 4 + 3 ≡ k * 4 + 43 = omega arith in
-    let size : get_or HEADS ((k + 10) * 4 + 3) 0 ≡ 5 = ap (λ (j : ℕ). get_or HEADS j 0) three ∙ at.3 in
+    let size : get_or NUMBERS ((k + 10) * 4 + 3) 0 ≡ 5 = ap (λ (j : ℕ). get_or NUMBERS j 0) three ∙ at.3 in
     let digits = decimal_two (k + 10) (omega arith) (omega (arith, few)) in
-    let comma : get_or HEADS ((k + 10) * 4) 0 ≡ 44 = ap (λ (j : ℕ). get_or HEADS j 0) here ∙ at.0 in
-    let tens : get_or HEADS ((k + 10) * 4 + 1) 0 ≡ 48 + (k + 10) / 10 = ap (λ (j : ℕ). get_or HEADS j 0) one ∙ at.1 in
-    let units : get_or HEADS ((k + 10) * 4 + 2) 0 ≡ 48 + (k + 10) % 10 = ap (λ (j : ℕ). get_or HEADS j 0) two ∙ at.2 in
+    let comma : get_or NUMBERS ((k + 10) * 4) 0 ≡ 44 = ap (λ (j : ℕ). get_or NUMBERS j 0) here ∙ at.0 in
+    let tens : get_or NUMBERS ((k + 10) * 4 + 1) 0 ≡ 48 + (k + 10) / 10 = ap (λ (j : ℕ). get_or NUMBERS j 0) one ∙ at.1 in
+    let units : get_or NUMBERS ((k + 10) * 4 + 2) 0 ≡ 48 + (k + 10) % 10 = ap (λ (j : ℕ). get_or NUMBERS j 0) two ∙ at.2 in
     record {
-      spelled = ap (λ (n : ℕ). take (n - 2) (drop ((k + 10) * 4) HEADS)) size ∙ three-at HEADS ((k + 10) * 4) (omega (arith, few)) ∙ (λ i. comma i ∷ tens i ∷ units i ∷ []) ∙ ap (λ (t : List ℕ). 44 ∷ t) (sym digits);
+      spelled = ap (λ (n : ℕ). take (n - 2) (drop ((k + 10) * 4) NUMBERS)) size ∙ three-at NUMBERS ((k + 10) * 4) (omega (arith, few)) ∙ (λ i. comma i ∷ tens i ∷ units i ∷ []) ∙ ap (λ (t : List ℕ). 44 ∷ t) (sym digits);
       long = size ∙ ap (λ (t : List ℕ). 3 + length t) (sym digits);
       short = omega (arith, size);
     }
@@ -103,34 +103,34 @@ is-head p few =
     ]
 
 -- hundreds as they stand in the table
-pub near-are : (p : ℕ) → 0 < p → p < 100 → AreHundreds (p * 100) (take 16 (take (412 - p * 4) (drop (p * 4) HEADS))) (get_or HEADS (p * 4 + 3) 0)
-near-are p some few =
+pub near-are : (p from : ℕ) → from ≡ p * 100 → 0 < p → p < 100 → AreHundreds from (take 16 (take (600 - p * 4) (drop (p * 4) NUMBERS))) (get_or NUMBERS (p * 4 + 3) 0)
+near-are p from is some few =
     let head = is-head p few in
-    let size : ℕ = get_or HEADS (p * 4 + 3) 0 in
-    let same : p * 100 / 100 ≡ p = omega arith in
-    let rest : take 16 (take (412 - p * 4) (drop (p * 4) HEADS)) ≡ take 16 (drop (p * 4) HEADS) = ap (take 16) (take_rest HEADS (p * 4)) in
-    let long : 16 ≤ length (drop (p * 4) HEADS) = omega (arith, few, length-drop (p * 4) HEADS) in
+    let size : ℕ = get_or NUMBERS (p * 4 + 3) 0 in
+    let same : from / 100 ≡ p = omega (arith, is) in
+    let rest : take 16 (take (600 - p * 4) (drop (p * 4) NUMBERS)) ≡ take 16 (drop (p * 4) NUMBERS) = ap (take 16) (take_rest NUMBERS (p * 4)) in
+    let long : 16 ≤ length (drop (p * 4) NUMBERS) = omega (arith, few, length-drop (p * 4) NUMBERS) in
     record {
-      some = omega (arith, some);
-      fits = omega (arith, few);
-      whole = omega arith;
-      spelled = ap (take (size - 2)) rest ∙ take-take (size - 2) 16 (drop (p * 4) HEADS) (omega (arith, head.short)) ∙ head.spelled ∙ ap (λ (n : ℕ). 44 ∷ decimal n) (sym same);
+      some = omega (arith, is, some);
+      fits = omega (arith, is, few);
+      whole = omega (arith, is);
+      spelled = ap (take (size - 2)) rest ∙ take-take (size - 2) 16 (drop (p * 4) NUMBERS) (omega (arith, head.short)) ∙ head.spelled ∙ ap (λ (n : ℕ). 44 ∷ decimal n) (sym same);
       long = head.long ∙ ap (λ (n : ℕ). 3 + length (decimal n)) (sym same);
       short = head.short;
-      len = ap length rest ∙ length-take-le 16 (drop (p * 4) HEADS) long;
+      len = ap length rest ∙ length-take-le 16 (drop (p * 4) NUMBERS) long;
     }
 
 -- and as they are spelled behind a comma
-pub far-are : (p end : ℕ) (text : List ℕ) → 0 < p → p * 100 < 2 ^ 32 → Placed (replicate 24 44) text 1 (decimal p) end → AreHundreds (p * 100) (take 16 text) (end + 2)
-far-are p end text some fits placed =
-    let same : p * 100 / 100 ≡ p = omega arith in
+pub far-are : (p from end : ℕ) (text : List ℕ) → from ≡ p * 100 → 0 < p → p * 100 < 2 ^ 32 → Placed (replicate 24 44) text 1 (decimal p) end → AreHundreds from (take 16 text) (end + 2)
+far-are p from end text is some fits placed =
+    let same : from / 100 ≡ p = omega (arith, is) in
     let few : length (decimal p) ≤ 8 = length-decimal-le 8 p (omega arith) (omega (arith, fits)) (omega (arith, fits)) in
     let there : end + 2 - 2 ≡ end = omega arith in
     let inside : end ≤ 16 = omega (arith, placed.moved, few) in
     record {
-      some = omega (arith, some);
-      fits = fits;
-      whole = omega arith;
+      some = omega (arith, is, some);
+      fits = omega (arith, is, fits);
+      whole = omega (arith, is);
       spelled = ap (λ (n : ℕ). take n (take 16 text)) there ∙ take-take end 16 text inside ∙ placed.bytes ∙ ap (λ (n : ℕ). 44 ∷ decimal n) (sym same);
       long = omega (arith, placed.moved) ∙ ap (λ (n : ℕ). 3 + length (decimal n)) (sym same);
       short = omega (arith, inside);
@@ -168,3 +168,23 @@ placed-number {a} {b} {c} {at} mark from low size text are few p q =
     let end : at + size - 2 + 2 ≡ at + size = omega (arith, are.long) in
     subst (λ (e : ℕ). Placed a c at (mark ∷ decimal n) e) end
     (subst (λ (t : List ℕ). Placed a c at (mark ∷ t) (at + size - 2 + 2)) whole (placed-then (subst (λ (e : ℕ). Placed a b at (mark ∷ decimal (from / 100)) e) here p) q))
+
+-- a number below 100 as it stands in the table
+pub placed-little : (buf : List ℕ) (at n : ℕ) → n < 100 → at + 4 ≤ length buf
+    → Placed buf (put_chunk at buf (take 4 (take (600 - n * 4) (drop (n * 4) NUMBERS)))) at (44 ∷ decimal n) (at + (get_or NUMBERS (n * 4 + 3) 0 - 2))
+placed-little buf at n few room =
+    let head = is-head n few in
+    let size : ℕ = get_or NUMBERS (n * 4 + 3) 0 in
+    let digits : length (decimal n) ≤ 2 = length-decimal-le 2 n (omega arith) (omega (arith, few)) (omega (arith, few)) in
+    let text : List ℕ = take 4 (take (600 - n * 4) (drop (n * 4) NUMBERS)) in
+    let rest : text ≡ take 4 (drop (n * 4) NUMBERS) = ap (take 4) (take_rest NUMBERS (n * 4)) in
+    let long : length text ≡ 4 = ap length rest ∙ length-take-le 4 (drop (n * 4) NUMBERS) (omega (arith, few, length-drop (n * 4) NUMBERS)) in
+    let spelled : take (size - 2) text ≡ 44 ∷ decimal n =
+    ap (take (size - 2)) rest ∙ take-take (size - 2) 4 (drop (n * 4) NUMBERS) (omega (arith, head.long, digits)) ∙ head.spelled in
+    let whole : Placed buf (put_chunk at buf text) at text (at + 4) = record {
+      bytes = take_more_put_chunk at buf text (at + 4) (omega (arith, long)) (omega (arith, long, room));
+      moved = omega (arith, long);
+      len = length-put_chunk at buf text;
+    } in
+    subst (λ (t : List ℕ). Placed buf (put_chunk at buf text) at t (at + (size - 2))) spelled
+    (placed-less (size - 2) (omega (arith, room)) (omega (arith, long, head.long, digits)) whole)

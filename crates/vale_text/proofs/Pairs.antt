@@ -8,16 +8,16 @@ use Rattle.std.proofs.lemmas.Simd.{take_more_put_chunk, length-put_chunk}
 use Rattle.std.proofs.lemmas.Fmt.{decimal_digit, decimal_step}
 use Rattle.vale_text.specs.Placed.{Placed}
 use Rattle.vale_text.proofs.Places.{placed-then}
-use Rattle.vale_text.specs.declared.numerals.TheConstants.{PAIRS}
+use Rattle.vale_text.specs.declared.numerals.TheConstants.{NUMBERS}
 
 abbrev pub two_digits : ℕ → List ℕ
 two_digits n = (48 + n / 10) ∷ (48 + n % 10) ∷ []
 
 abbrev are_pairs : ℕ → Bool
 are_pairs zero = true
-are_pairs (suc p) = (eqb (get_or PAIRS (p * 2) 0) (48 + p / 10) && eqb (get_or PAIRS (p * 2 + 1) 0) (48 + p % 10)) && are_pairs p
+are_pairs (suc p) = (eqb (get_or NUMBERS (p * 2 + 400) 0) (48 + p / 10) && eqb (get_or NUMBERS (p * 2 + 401) 0) (48 + p % 10)) && are_pairs p
 
-below : (n p : ℕ) → T (are_pairs n) → p < n → (get_or PAIRS (p * 2) 0 ≡ 48 + p / 10) × (get_or PAIRS (p * 2 + 1) 0 ≡ 48 + p % 10)
+below : (n p : ℕ) → T (are_pairs n) → p < n → (get_or NUMBERS (p * 2 + 400) 0 ≡ 48 + p / 10) × (get_or NUMBERS (p * 2 + 401) 0 ≡ 48 + p % 10)
 below zero p t h = absurd (omega arith)
 below (suc n) p t h =
     elim (eq-zero-or-pos (n - p)) [
@@ -26,7 +26,7 @@ below (suc n) p t h =
     ]
 
 -- the two digits of the table
-pub pairs_at : (p : ℕ) → p < 100 → (get_or PAIRS (p * 2) 0 ≡ 48 + p / 10) × (get_or PAIRS (p * 2 + 1) 0 ≡ 48 + p % 10)
+pub pairs_at : (p : ℕ) → p < 100 → (get_or NUMBERS (p * 2 + 400) 0 ≡ 48 + p / 10) × (get_or NUMBERS (p * 2 + 401) 0 ≡ 48 + p % 10)
 pairs_at p h = below 100 p tt h
 
 pub decimal_two : (n : ℕ) → 10 ≤ n → n < 100 → decimal n ≡ two_digits n
@@ -48,10 +48,12 @@ two-at (x ∷ xs) (suc i) h =
     two-at xs i (omega (arith, h)) ∙ ap (λ (k : ℕ). get_or xs i 0 ∷ get_or (x ∷ xs) k 0 ∷ []) (sym next)
 
 -- the two digits as they stand in the table
-pub pair_of : (p : ℕ) → p < 100 → take 2 (take (200 - p * 2) (drop (p * 2) PAIRS)) ≡ two_digits p
+pub pair_of : (p : ℕ) → p < 100 → take 2 (take (600 - (p * 2 + 400)) (drop (p * 2 + 400) NUMBERS)) ≡ two_digits p
 pair_of p h =
     let at = pairs_at p h in
-    ap (take 2) (take_rest PAIRS (p * 2)) ∙ two-at PAIRS (p * 2) (omega arith) ∙ (λ i. at.0 i ∷ at.1 i ∷ [])
+    let next : p * 2 + 400 + 1 ≡ p * 2 + 401 = omega arith in
+    let units : get_or NUMBERS (p * 2 + 400 + 1) 0 ≡ 48 + p % 10 = ap (λ (j : ℕ). get_or NUMBERS j 0) next ∙ at.1 in
+    ap (take 2) (take_rest NUMBERS (p * 2 + 400)) ∙ two-at NUMBERS (p * 2 + 400) (omega arith) ∙ (λ i. at.0 i ∷ units i ∷ [])
 
 -- two digits at once
 pub placed-two : (buf xs : List ℕ) (at x y : ℕ) → xs ≡ x ∷ y ∷ [] → at + 2 ≤ length buf → Placed buf (put_chunk at buf xs) at (x ∷ y ∷ []) (at + 2)

@@ -1,11 +1,15 @@
 //! The spans of a list of buffers: neighbours are written by the first and the last of them.
-ghost use Rattle.std.specs.Prelude.{◌≡◌, ◌<◌, ◌≤◌, ◌+◌, ◌-◌, ◌*◌, ◌^◌, ◌∷◌, [], length, drop, get_or, IfSome};
+ghost use Rattle.std.specs.Prelude.{◌≡◌, ◌<◌, ◌≤◌, ◌+◌, ◌-◌, ◌*◌, ◌^◌, ◌∷◌, [], length, drop, get_or, decimal, IfSome};
 ghost use Rattle.std.specs.Option.{IfNone};
 ghost use Rattle.vale_entry.specs.Spans.{spans_in};
-ghost use Rattle.vale_text.specs.Placed.{AreHundreds};
+ghost use Rattle.vale_text.specs.Pieces.{behind};
+ghost use Rattle.vale_text.specs.Placed.{Placed, AreHundreds};
 ghost use Rattle.vale_text.specs.Spans.{IsRun, ArePlaced};
 
-use crate::numerals::{DIGITS, Hundreds, hundreds_of, place_next};
+use crate::numerals::{
+    DIGITS, Hundreds, above, near_hundreds, place_anew, place_little, place_marked, place_next,
+    place_shared,
+};
 use vale_entry::Span;
 
 /// How many numbers at the front follow one another, from the first one on.
@@ -50,8 +54,8 @@ const ITEM: usize = DIGITS + 1;
 /// The most bytes of a span behind a comma.
 pub(crate) const SPAN: usize = 2 * ITEM;
 
-/// The least number of four digits.
-const LEAST: u64 = 1000;
+/// The hundreds of the least number of four digits.
+const LEAST: u64 = 10;
 
 /// Where the numbers end that follow one another from the k-th on, which is the first of at least two,
 /// and the last of them.
@@ -76,9 +80,87 @@ fn run_end(numbers: &[u32], k: usize, first: u64) -> (usize, u64)
     (end, last)
 }
 
-/// Writes the span that begins with the k-th number behind a comma, and returns where it ends, hundreds
-/// as `place_next` does, and which number is behind it. A number that has not its neighbour behind it is
-/// written before an end is looked for.
+/// Writes the span that begins with the k-th number, which is below 100, behind a comma, and returns
+/// where it ends, and which number is behind it.
+#[inline(always)]
+fn place_little_span(buf: &mut [u8], at: usize, numbers: &[u32], k: usize) -> (usize, usize)
+    requires room { at + 42 ≤ length buf.old }
+    requires inside { k + 1 < length numbers.now }
+    requires few { get_or numbers.now k 0 < 100 }
+    ensures placed { ArePlaced buf.old buf.new at result.0 (drop k numbers.now) (drop result.1 numbers.now) }
+    ensures within { result.0 + 21 * k ≤ at + 21 * result.1 }
+    ensures room { result.0 ≤ at + 42 }
+    ensures further { (k < result.1) × (result.1 ≤ length numbers.now) }
+{
+    let first = numbers[k] as u64;
+    let end = place_little(buf, at, b',', first);
+    if numbers[k + 1] as u64 != first + 1 {
+        return (end, k + 1);
+    }
+    let (next, last) = run_end(numbers, k, first);
+    (place_marked(buf, end, b'-', last), next)
+}
+
+/// Writes spans from the k-th number on as long as they begin with a number below 100, as the first of them
+/// does, each behind a comma, and returns where they end, and which number is behind them.
+#[inline(never)]
+fn place_little_spans(
+    buf: &mut [u8],
+    at: usize,
+    numbers: &[u32],
+    k: usize,
+    count: usize,
+) -> (usize, usize)
+    requires room { at + 21 * count + 21 ≤ length buf.old + 21 * k }
+    requires inside { (k < count) × (count < length numbers.now) }
+    requires few { get_or numbers.now k 0 < 100 }
+    ensures placed { ArePlaced buf.old buf.new at result.0 (drop k numbers.now) (drop result.1 numbers.now) }
+    ensures within { result.0 + 21 * k ≤ at + 21 * result.1 }
+    ensures room { result.0 ≤ length buf.old }
+    ensures further { (k < result.1) × (result.1 ≤ length numbers.now) }
+{
+    let (mut end, mut done) = place_little_span(buf, at, numbers, k);
+    while done < count && numbers[done] < 100 {
+        (end, done) = place_little_span(buf, end, numbers, done);
+    }
+    (end, done)
+}
+
+/// Writes a number behind a comma as `place_next` does, but for one below 100.
+#[inline(always)]
+fn place_greater(
+    buf: &mut [u8],
+    at: usize,
+    hundreds: Hundreds,
+    number: u64,
+) -> Option<(usize, Hundreds)>
+    requires room { at + 21 ≤ length buf.old }
+    requires hundreds { AreHundreds (2 ^ 64 - hundreds.below) hundreds.text hundreds.len }
+    requires fits { number < 2 ^ 32 }
+    ensures placed { IfSome result (λ next. Placed buf.old buf.new at (behind 44 decimal number) next.0) }
+    ensures within { IfSome result (λ next. next.0 ≤ at + 21) }
+    ensures hundreds { IfSome result (λ next. AreHundreds (2 ^ 64 - next.1.below) next.1.text next.1.len) }
+    ensures none { IfNone result ((number < 100) × (buf.new ≡ buf.old)) }
+{
+    let low = above(hundreds, number);
+    if low < 100 {
+        return Some((place_shared(buf, at, b',', hundreds, low), hundreds));
+    }
+    let high = number / 100;
+    // Most of the others have three or four digits, which one comparison tells.
+    if number.wrapping_sub(100) < 9900 {
+        return Some(place_anew(buf, at, b',', number, high));
+    }
+    if number < 100 {
+        return None;
+    }
+    Some(place_anew(buf, at, b',', number, high))
+}
+
+/// Writes the span that begins with the k-th number behind a comma, or, if that number is below 100, also
+/// those behind it that begin with such a number, and returns where they end, hundreds as `place_next` does,
+/// and which number is behind them. A number that has not its neighbour behind it is written before an end
+/// is looked for.
 #[inline(always)]
 fn place_span(
     buf: &mut [u8],
@@ -86,18 +168,22 @@ fn place_span(
     hundreds: Hundreds,
     numbers: &[u32],
     k: usize,
+    count: usize,
 ) -> (usize, Hundreds, usize)
-    requires room { at + 42 ≤ length buf.old }
-    requires hundreds { AreHundreds hundreds.from hundreds.text hundreds.len }
-    requires inside { k + 1 < length numbers.now }
+    requires room { at + 21 * count + 21 ≤ length buf.old + 21 * k }
+    requires hundreds { AreHundreds (2 ^ 64 - hundreds.below) hundreds.text hundreds.len }
+    requires inside { (k < count) × (count < length numbers.now) }
     ensures placed { ArePlaced buf.old buf.new at result.0 (drop k numbers.now) (drop result.2 numbers.now) }
     ensures within { result.0 + 21 * k ≤ at + 21 * result.2 }
-    ensures room { result.0 ≤ at + 42 }
-    ensures hundreds { AreHundreds result.1.from result.1.text result.1.len }
+    ensures room { result.0 ≤ length buf.old }
+    ensures hundreds { AreHundreds (2 ^ 64 - result.1.below) result.1.text result.1.len }
     ensures further { (k < result.2) × (result.2 ≤ length numbers.now) }
 {
     let first = numbers[k] as u64;
-    let (end, hundreds) = place_next(buf, at, b',', hundreds, first);
+    let Some((end, hundreds)) = place_greater(buf, at, hundreds, first) else {
+        let (end, next) = place_little_spans(buf, at, numbers, k, count);
+        return (end, hundreds, next);
+    };
     if numbers[k + 1] as u64 != first + 1 {
         return (end, hundreds, k + 1);
     }
@@ -114,12 +200,12 @@ fn place_many(buf: &mut [u8], at: usize, numbers: &[u32], count: usize) -> (usiz
     requires inside { count < length numbers.now }
     ensures placed { ArePlaced buf.old buf.new at result.0 numbers.now (drop result.2 numbers.now) }
     ensures within { (result.0 ≤ at + 21 * result.2) × (result.0 ≤ length buf.old) }
-    ensures hundreds { AreHundreds result.1.from result.1.text result.1.len }
+    ensures hundreds { AreHundreds (2 ^ 64 - result.1.below) result.1.text result.1.len }
     ensures further { (count ≤ result.2) × (result.2 ≤ length numbers.now) }
 {
-    let (mut end, mut hundreds, mut done) = (at, hundreds_of(LEAST), 0);
+    let (mut end, mut hundreds, mut done) = (at, near_hundreds(LEAST), 0);
     while done < count {
-        (end, hundreds, done) = place_span(buf, end, hundreds, numbers, done);
+        (end, hundreds, done) = place_span(buf, end, hundreds, numbers, done, count);
     }
     (end, hundreds, done)
 }

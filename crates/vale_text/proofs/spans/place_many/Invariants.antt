@@ -1,4 +1,4 @@
-use Rattle.std.proofs.Common.{◌≡◌, ◌≤◌, ◌+◌, ◌-◌, ◌*◌, length, drop}
+use Rattle.std.proofs.Common.{◌≡◌, ◌≤◌, ◌+◌, ◌-◌, ◌*◌, ◌^◌, length, drop}
 use Rattle.vale_text.specs.Placed.{AreHundreds}
 use Rattle.vale_text.specs.Spans.{ArePlaced}
 use Rattle.vale_text.proofs.spans.place_many.Given as goal
@@ -8,7 +8,7 @@ invariant-loop-done l = record {
   placed : ArePlaced l.fn.buf l.buf l.at l.end l.numbers (drop l.done l.numbers);
   within : (l.end ≤ l.at + 21 * l.done) × (l.end ≤ length l.buf);
   same : length l.buf ≡ length l.fn.buf;
-  hundreds : AreHundreds l.hundreds.from l.hundreds.text l.hundreds.len;
+  hundreds : AreHundreds (2 ^ 64 - l.hundreds.below) l.hundreds.text l.hundreds.len;
   further : l.done ≤ length l.numbers;
 }
 
