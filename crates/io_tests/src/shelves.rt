@@ -4,6 +4,7 @@ use nm_io::{
     Failed, FileShelf, Gate, MemoryShelf, MemorySink, NoGate, Page, RawSink, RawWrite, ReadError,
     Shelf, Sink, Stage, StdSink, Text, append_all, put_all, put_page, put_text, read_all,
 };
+use std::alloc::Global;
 use std::io::ErrorKind;
 use std::process::Abort;
 use std::rt::Files;
@@ -81,36 +82,35 @@ fn memory_shelf_fails_where_told(rt: HostRuntime) -> Result<(), Fail> {
     Ok(())
 }
 
+/// Reads a file of so many bytes within a limit. Tells whether all of it is read, or it is too long.
+fn is_read_within(alloc: Global, len: usize, limit: u64, long: bool) -> Result<bool, Fail> {
+    let mut shelf = MemoryShelf::new(alloc, Vec::new(alloc));
+    let contents = vec![in alloc; 7u8; len]?;
+    shelf.add("s", contents.as_slice())?;
+    match read_all(alloc, &mut shelf, "s", limit) {
+        Ok(found) => Ok(!long && found.as_slice() == contents.as_slice()),
+        Err(error) => Ok(long && error == ReadError::TooLong),
+    }
+}
+
+/// The length of a file, a limit, and whether the file is longer.
+const LIMITS: [(usize, u64, bool); 5] = [
+    (0, 0, false),
+    (14, 14, false),
+    (14, 13, true),
+    (20000, 20000, false),
+    (20000, 19999, true),
+];
+
 #[test]
 fn reads_whole_files_within_the_limit(rt: HostRuntime) -> Result<(), Fail> {
-    for (len, limit, long) in [
-        (0, 0, false),
-        (14, 14, false),
-        (14, 13, true),
-        (20000, 20000, false),
-        (20000, 19999, true),
-    ] {
-        let mut shelf = MemoryShelf::new(rt.alloc(), Vec::new(rt.alloc()));
-        let contents = vec![in rt.alloc(); 7u8; len]?;
-        shelf.add("s", contents.as_slice())?;
-        match read_all(rt.alloc(), &mut shelf, "s", limit) {
-            Ok(found) => assert!(rt;
-                !long && found.as_slice() == contents.as_slice(),
-                "{len} bytes"
-            ),
-            Err(error) => assert!(rt;
-                long && error == ReadError::TooLong,
-                "{len} bytes: {error:?}"
-            ),
-        }
+    for (len, limit, long) in LIMITS {
+        let is_read = is_read_within(rt.alloc(), len, limit, long)?;
+        assert!(rt; is_read, "{len} bytes");
     }
     let mut shelf = MemoryShelf::new(rt.alloc(), Vec::new(rt.alloc()));
-    assert!(rt;
-        matches!(
-            read_all(rt.alloc(), &mut shelf, "s", 9),
-            Err(ReadError::Failed)
-        )
-    );
+    let found = read_all(rt.alloc(), &mut shelf, "s", 9);
+    assert!(rt; matches!(found, Err(ReadError::Failed)));
     Ok(())
 }
 
@@ -126,19 +126,32 @@ impl Text for Word {
     }
 }
 
+/// The size of a page, and which call of a sink fails: the one behind those that put three words.
+const PAGES: [(usize, u64); 4] = [(2, 4), (3, 4), (6, 3), (9, 2)];
+
+/// Puts three words by pages of so many bytes.
+fn put_words(
+    rt: &impl Abort,
+    alloc: Global,
+    sink: &mut MemorySink,
+    size: usize,
+) -> Result<(), Fail> {
+    let mut page = Page::new(alloc, size)?;
+    for letter in [b'a', b'b', b'c'] {
+        assert!(rt; put_text(sink, &mut page, &Word(letter)).is_ok());
+    }
+    assert!(rt; put_page(sink, &mut page).is_ok());
+    assert!(rt; page.bytes().is_empty());
+    Ok(())
+}
+
 #[test]
 fn texts_go_out_by_pages(rt: HostRuntime) -> Result<(), Fail> {
-    for (size, calls) in [(2, 3), (3, 3), (6, 2), (9, 1)] {
-        let fail = vec![in rt.alloc(); calls + 1]?;
-        let mut sink = MemorySink::new(rt.alloc(), fail);
-        let mut page = Page::new(rt.alloc(), size)?;
-        for letter in [b'a', b'b', b'c'] {
-            assert_eq!(rt; put_text(&mut sink, &mut page, &Word(letter)), Ok(()));
-        }
-        assert_eq!(rt; put_page(&mut sink, &mut page), Ok(()));
-        assert_eq!(rt; sink.bytes(), b"aaabbbccc".as_slice());
-        assert_eq!(rt; page.bytes().len(), 0);
-        assert_eq!(rt; sink.put(b"d"), Err(Failed), "pages of {size} bytes");
+    for (size, last) in PAGES {
+        let mut sink = MemorySink::new(rt.alloc(), vec![in rt.alloc(); last]?);
+        put_words(&rt, rt.alloc(), &mut sink, size)?;
+        assert!(rt; sink.bytes() == b"aaabbbccc".as_slice());
+        assert!(rt; sink.put(b"d") == Err(Failed), "pages of {size} bytes");
     }
     Ok(())
 }
@@ -182,23 +195,44 @@ fn short_writes_are_continued(rt: HostRuntime) -> Result<(), Fail> {
     Ok(())
 }
 
+/// How many bytes a call takes, and which calls fail: of a sink the one behind those that put a
+/// script, and of a shelf those behind the ones that append it and that read it.
+const PIECES: [(usize, u64, u64); 4] = [(1, 15, 31), (5, 4, 9), (14, 2, 5), (99, 2, 5)];
+
+/// A sink takes a script piece by piece, and no byte behind it.
+fn put_in_pieces(rt: &impl Abort, alloc: Global, piece: usize, last: u64) -> Result<(), Fail> {
+    assert!(rt; piece >= 1);
+    let mut sink = MemorySink::in_pieces(alloc, vec![in alloc; last]?, piece);
+    assert!(rt; put_all(&mut sink, SCRIPT) == Ok(()));
+    assert!(rt; sink.bytes() == SCRIPT.as_slice());
+    assert!(rt; sink.put(b"x") == Err(Failed), "pieces of {piece}");
+    Ok(())
+}
+
+/// Whether a script is read from a shelf.
+fn has_script(alloc: Global, shelf: &mut MemoryShelf) -> bool {
+    match read_all(alloc, shelf, "s", 14) {
+        Ok(found) => found.as_slice() == SCRIPT.as_slice(),
+        Err(_) => false,
+    }
+}
+
+/// A script is appended to a shelf and read piece by piece, and no byte appended behind it.
+fn append_in_pieces(rt: &impl Abort, alloc: Global, piece: usize, fail: Vec<u64>) {
+    assert!(rt; piece >= 1);
+    let mut shelf = MemoryShelf::in_pieces(alloc, fail, piece);
+    assert!(rt; append_all(&mut shelf, "s", SCRIPT) == Ok(()));
+    assert!(rt; shelf.append("s", b"x") == Err(Failed), "pieces of {piece}");
+    assert!(rt; has_script(alloc, &mut shelf), "pieces of {piece}");
+    assert!(rt; shelf.append("s", b"x") == Err(Failed), "pieces of {piece}");
+}
+
 #[test]
 fn calls_are_answered_in_pieces(rt: HostRuntime) -> Result<(), Fail> {
-    for (piece, calls) in [(1, 14), (5, 3), (14, 1), (99, 1)] {
-        let mut sink = MemorySink::in_pieces(rt.alloc(), vec![in rt.alloc(); calls + 1]?, piece);
-        assert_eq!(rt; put_all(&mut sink, SCRIPT), Ok(()));
-        assert_eq!(rt; sink.bytes(), SCRIPT.as_slice());
-        assert_eq!(rt; sink.put(b"x"), Err(Failed), "pieces of {piece}");
-
-        let fail = vec![in rt.alloc(); calls + 1, 2 * calls + 3]?;
-        let mut shelf = MemoryShelf::in_pieces(rt.alloc(), fail, piece);
-        assert_eq!(rt; append_all(&mut shelf, "s", SCRIPT), Ok(()));
-        assert_eq!(rt; shelf.append("s", b"x"), Err(Failed), "pieces of {piece}");
-        match read_all(rt.alloc(), &mut shelf, "s", 14) {
-            Ok(found) => assert_eq!(rt; found.as_slice(), SCRIPT.as_slice()),
-            Err(error) => assert!(rt; false, "{error:?}"),
-        }
-        assert_eq!(rt; shelf.append("s", b"x"), Err(Failed), "pieces of {piece}");
+    for (piece, appended, read) in PIECES {
+        put_in_pieces(&rt, rt.alloc(), piece, appended)?;
+        let fail = vec![in rt.alloc(); appended, read]?;
+        append_in_pieces(&rt, rt.alloc(), piece, fail);
     }
     Ok(())
 }

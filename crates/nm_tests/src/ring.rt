@@ -65,30 +65,33 @@ fn letter(rt: &impl Abort, ring: &Ring, head: u32, cur: u32) -> u8 {
     }
 }
 
+/// The answers at a head and each cur from 0 on.
+fn answer_at_head(rt: &impl Abort, ring: &Ring, head: u32, answers: &[u8]) {
+    for (cur, wanted) in (0u32..).zip(answers) {
+        assert!(rt; letter(rt, ring, head, cur) == *wanted, "{head} {cur}");
+    }
+}
+
+/// The answers at each head, as many as the ring has slots and one more, and each cur.
+fn answer_all(rt: &impl Abort, ring: &Ring, answers: &[u8]) {
+    let count = ring.size() as usize + 1;
+    assert!(rt; answers.len() == count.saturating_mul(count));
+    for (head, answers) in (0u32..).zip(answers.chunks(count)) {
+        answer_at_head(rt, ring, head, answers);
+    }
+}
+
 #[test]
 fn every_position_of_small_rings(rt: HostRuntime) {
     for (size, accepted, tail, user, answers) in POSITIONS {
         let ring = ring_at(&rt, size, accepted, tail);
-        assert!(rt; ring.size() == size);
         assert!(rt;
-            ring.user_range() == (accepted, user),
+            ring.size() == size
+                && ring.user_range() == (accepted, user)
+                && ring.would_wake() == (accepted != tail),
             "{size} {accepted} {tail}"
         );
-        assert!(rt;
-            ring.would_wake() == (accepted != tail),
-            "{size} {accepted} {tail}"
-        );
-        let mut wanted = answers.iter();
-        for head in 0..size + 1 {
-            for cur in 0..size + 1 {
-                let answer = letter(&rt, &ring, head, cur);
-                assert!(rt;
-                    wanted.next() == Some(&answer),
-                    "{size} {accepted} {tail} {head} {cur}"
-                );
-            }
-        }
-        assert!(rt; wanted.next().is_none());
+        answer_all(&rt, &ring, answers);
     }
 }
 
@@ -117,31 +120,28 @@ fn cur_out(cur: u32, from: u32) -> RingFault {
     RingFault::CurOut { cur, from, to: 3 }
 }
 
+/// Head and cur are stored in a ring as it was opened, and are refused; a reset takes them back.
+fn refuse(rt: &impl Abort, opened: Ring, head: u32, cur: u32, fault: RingFault) {
+    let mut ring = opened;
+    ring.put_head(head);
+    ring.put_cur(cur);
+    assert!(rt; ring.check(ring.head(), ring.cur()) == Err(fault));
+    ring.reset();
+    assert!(rt; ring == opened);
+    assert!(rt; ring.check(ring.head(), ring.cur()).is_ok());
+}
+
 #[test]
 fn bad_positions_reset(rt: HostRuntime) {
     let rx = Ring::rx(4);
     let tx = Ring::tx(4);
     let last = u32::MAX;
-    let refused = [
-        (rx, 1, 1, head_out(1, 0)),
-        (tx, 2, 1, cur_out(1, 2)),
-        (tx, 4, 4, head_out(4, 3)),
-        (tx, last, 0, head_out(last, 3)),
-        (tx, 0, last, cur_out(last, 0)),
-        (rx, last, last, head_out(last, 0)),
-    ];
-    for (opened, head, cur, fault) in refused {
-        let mut ring = opened;
-        ring.put_head(head);
-        ring.put_cur(cur);
-        assert!(rt;
-            ring.check(ring.head(), ring.cur()) == Err(fault),
-            "{head} {cur}"
-        );
-        ring.reset();
-        assert!(rt; ring == opened, "{head} {cur}");
-        assert!(rt; ring.check(ring.head(), ring.cur()).is_ok(), "{head} {cur}");
-    }
+    refuse(&rt, rx, 1, 1, head_out(1, 0));
+    refuse(&rt, tx, 2, 1, cur_out(1, 2));
+    refuse(&rt, tx, 4, 4, head_out(4, 3));
+    refuse(&rt, tx, last, 0, head_out(last, 3));
+    refuse(&rt, tx, 0, last, cur_out(last, 0));
+    refuse(&rt, rx, last, last, head_out(last, 0));
 }
 
 /// A pipe of 4 slots whose peer takes one of three frames: two stay pending behind the tail.

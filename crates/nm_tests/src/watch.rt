@@ -1,53 +1,107 @@
 use nm_types::{PortId, Side, Sides, WatchFault};
 use nm_watch::Watches;
+use std::alloc::Global;
 use std::process::Abort;
 
+/// A call, with its answer if it has one. Ports are told by their numbers.
+enum Call {
+    /// A port is watched by a monitor, or the call is refused for another one's watch.
+    Adds(u32, u32, Sides, Option<u32>),
+    /// The monitor of a side of a port.
+    Sees(u32, Side, Option<u32>),
+    /// A port goes.
+    Forgets(u32),
+}
+
+/// Tells whether a port comes to be watched, or is refused for the watch of another monitor.
+fn adds(watches: &mut Watches, target: u32, monitor: u32, sides: Sides, by: Option<u32>) -> bool {
+    match watches.add(PortId(target), PortId(monitor), sides) {
+        Ok(()) => by.is_none(),
+        Err(WatchFault::Watched { by: other }) => by == Some(other.0),
+        Err(_) => false,
+    }
+}
+
+/// Tells whether a call is answered as it says.
+fn is_answered(watches: &mut Watches, call: &Call) -> bool {
+    match call {
+        Call::Adds(target, monitor, sides, by) => adds(watches, *target, *monitor, *sides, *by),
+        Call::Sees(target, side, monitor) => {
+            watches.of(PortId(*target), *side) == monitor.map(PortId)
+        }
+        Call::Forgets(port) => {
+            watches.forget(PortId(*port));
+            true
+        }
+    }
+}
+
+/// Makes calls over no watches, each of which is answered as it says.
+fn make_all(rt: &impl Abort, alloc: Global, calls: &[Call]) {
+    let mut watches = Watches::new(alloc);
+    for (at, call) in calls.iter().enumerate() {
+        assert!(rt; is_answered(&mut watches, call), "call {at}");
+    }
+}
+
 /// Port 4 is watched by monitor 6; a second watch of it is refused, even by the same monitor.
+const SECOND: &[Call] = &[
+    Call::Adds(4, 6, Sides::TR, None),
+    Call::Adds(4, 7, Sides::T, Some(6)),
+    Call::Adds(4, 6, Sides::TR, Some(6)),
+    Call::Sees(4, Side::Tx, Some(6)),
+    Call::Sees(6, Side::Tx, None),
+];
+
 #[test]
-fn second_watch_is_refused(rt: HostRuntime) -> Result<(), WatchFault> {
-    let taken = Err(WatchFault::Watched { by: PortId(6) });
-    let mut watches = Watches::new(rt.alloc());
-    watches.add(PortId(4), PortId(6), Sides::TR)?;
-    assert!(rt; watches.add(PortId(4), PortId(7), Sides::T) == taken);
-    assert!(rt; watches.add(PortId(4), PortId(6), Sides::TR) == taken);
-    assert!(rt; watches.of(PortId(4), Side::Tx) == Some(PortId(6)));
-    assert!(rt; watches.of(PortId(6), Side::Tx).is_none());
-    Ok(())
+fn second_watch_is_refused(rt: HostRuntime) {
+    make_all(&rt, rt.alloc(), SECOND);
 }
 
 /// Each kind of watch sees its own sides.
+const SIDES: [&[Call]; 3] = [
+    &[
+        Call::Adds(4, 6, Sides::T, None),
+        Call::Sees(4, Side::Tx, Some(6)),
+        Call::Sees(4, Side::Rx, None),
+    ],
+    &[
+        Call::Adds(4, 6, Sides::R, None),
+        Call::Sees(4, Side::Tx, None),
+        Call::Sees(4, Side::Rx, Some(6)),
+    ],
+    &[
+        Call::Adds(4, 6, Sides::TR, None),
+        Call::Sees(4, Side::Tx, Some(6)),
+        Call::Sees(4, Side::Rx, Some(6)),
+    ],
+];
+
 #[test]
-fn sides_of_a_watch(rt: HostRuntime) -> Result<(), WatchFault> {
-    let seen = [
-        (Sides::T, true, false),
-        (Sides::R, false, true),
-        (Sides::TR, true, true),
-    ];
-    for (sides, transmit, receive) in seen {
-        let mut watches = Watches::new(rt.alloc());
-        watches.add(PortId(4), PortId(6), sides)?;
-        assert!(rt; watches.of(PortId(4), Side::Tx).is_some() == transmit);
-        assert!(rt; watches.of(PortId(4), Side::Rx).is_some() == receive);
+fn sides_of_a_watch(rt: HostRuntime) {
+    for calls in SIDES {
+        make_all(&rt, rt.alloc(), calls);
     }
-    Ok(())
 }
 
 /// Monitor 6 watches ports 4, 5 and 7, and monitor 8 watches port 9: a watch ends with either port.
+const ENDS: &[Call] = &[
+    Call::Adds(4, 6, Sides::T, None),
+    Call::Adds(5, 6, Sides::T, None),
+    Call::Adds(7, 6, Sides::T, None),
+    Call::Adds(9, 8, Sides::R, None),
+    Call::Forgets(5),
+    Call::Sees(4, Side::Tx, Some(6)),
+    Call::Sees(5, Side::Tx, None),
+    Call::Forgets(6),
+    Call::Sees(4, Side::Tx, None),
+    Call::Sees(7, Side::Tx, None),
+    Call::Sees(9, Side::Rx, Some(8)),
+    Call::Adds(4, 8, Sides::T, None),
+    Call::Sees(4, Side::Tx, Some(8)),
+];
+
 #[test]
-fn watches_end_with_either_port(rt: HostRuntime) -> Result<(), WatchFault> {
-    let mut watches = Watches::new(rt.alloc());
-    for target in [4, 5, 7] {
-        watches.add(PortId(target), PortId(6), Sides::T)?;
-    }
-    watches.add(PortId(9), PortId(8), Sides::R)?;
-    watches.forget(PortId(5));
-    assert!(rt; watches.of(PortId(4), Side::Tx) == Some(PortId(6)));
-    assert!(rt; watches.of(PortId(5), Side::Tx).is_none());
-    watches.forget(PortId(6));
-    assert!(rt; watches.of(PortId(4), Side::Tx).is_none());
-    assert!(rt; watches.of(PortId(7), Side::Tx).is_none());
-    assert!(rt; watches.of(PortId(9), Side::Rx) == Some(PortId(8)));
-    watches.add(PortId(4), PortId(8), Sides::T)?;
-    assert!(rt; watches.of(PortId(4), Side::Tx) == Some(PortId(8)));
-    Ok(())
+fn watches_end_with_either_port(rt: HostRuntime) {
+    make_all(&rt, rt.alloc(), ENDS);
 }

@@ -43,12 +43,22 @@ fn exchange_two(rt: &impl Abort, hold: &mut Hold, two: Buf, three: Buf)
     set_first_byte(rt, hold, 2);
     assert!(rt; hold.index(FIRST).is_some() && hold.named(3));
     hold.exchange(FIRST, 3);
-    assert_eq!(rt; hold.index(FIRST), Some(3));
-    assert_eq!(rt; hold.index(SECOND), Some(2));
-    assert_eq!(rt; hold.place(3), Some(FIRST));
-    assert!(rt; hold.bytes(4).is_none());
-    assert_eq!(rt; hold.bytes(2).and_then(|bytes| bytes.first()), Some(&7));
-    assert_eq!(rt; hold.extra_count(PORT), 0);
+    are_exchanged(rt, hold);
+}
+
+/// The places name each other's buffers, whose bytes went with them.
+fn are_exchanged(rt: &impl Abort, hold: &Hold) {
+    assert!(rt; hold.index(FIRST) == Some(3) && hold.index(SECOND) == Some(2));
+    assert!(rt; hold.place(3) == Some(FIRST) && hold.bytes(4).is_none());
+    assert!(rt; begins_with(hold, 2, 7) && hold.extra_count(PORT) == 0);
+}
+
+/// Whether the bytes of a named buffer begin with this one.
+fn begins_with(hold: &Hold, idx: u32, byte: u8) -> bool {
+    match hold.bytes(idx) {
+        Some(bytes) => bytes.first() == Some(&byte),
+        None => false,
+    }
 }
 
 fn name(rt: &impl Abort, hold: &mut Hold, place: Place)
@@ -90,10 +100,9 @@ fn play(rt: &impl Abort, region: &Region, hold: &mut Hold, all: &mut Vec<Buf>)
     assert!(rt; two.index() == 2 && three.index() == 3);
     exchange_two(rt, hold, two, three);
     let first = take(rt, hold, FIRST);
-    assert_eq!(rt; first.index(), 3);
+    assert!(rt; first.index() == 3);
     let second = take(rt, hold, SECOND);
-    assert_eq!(rt; second.index(), 2);
-    assert_eq!(rt; hold.index(SECOND), None);
+    assert!(rt; second.index() == 2 && hold.index(SECOND).is_none());
     all.push_reserved(second);
     all.push_reserved(first);
 }
@@ -121,10 +130,28 @@ fn exchange_of_two_slots(rt: HostRuntime) -> Result<(), Fail> {
 
 /// The first byte of a named buffer is written by a look-up that may find none.
 fn write_found(rt: &impl Abort, hold: &mut Hold, idx: u32) {
-    if let Some(byte) = hold.bytes_mut(idx).and_then(|bytes| bytes.first_mut()) {
-        *byte = 8;
+    if let Some(bytes) = hold.bytes_mut(idx) {
+        if let Some(byte) = bytes.first_mut() {
+            *byte = 8;
+        }
     }
-    assert_eq!(rt; hold.bytes(idx).and_then(|bytes| bytes.first()), Some(&8));
+    assert!(rt; begins_with(hold, idx, 8));
+}
+
+/// A hold with a port of two slots in each ring.
+fn opened(rt: &impl Abort, alloc: Global) -> Hold
+    ensures { result ≡ record (empty_hold 8) {
+      ports = record { port = record { 0 = 3 }; sizes = record { tx = 2; rx = 2; extra = 0 } } ∷ [];
+    } }
+{
+    let Ok(mut hold) = Hold::new(alloc, 8) else {
+        panic!(rt; "out of memory");
+    };
+    let Ok(room) = hold.room(2, 2, 0) else {
+        panic!(rt; "out of memory");
+    };
+    hold.set_port(PORT, room);
+    hold
 }
 
 /// The buffer stays in the hold: the test ends by the panic that it expects.
@@ -134,16 +161,10 @@ fn named_bytes_are_written(rt: HostRuntime) {
     let Ok((_region, mut all)) = Region::new(rt.alloc(), 1) else {
         panic!(rt; "out of memory");
     };
-    let Ok(mut hold) = Hold::new(rt.alloc(), 8) else {
-        panic!(rt; "out of memory");
-    };
-    let Ok(room) = hold.room(2, 2, 0) else {
-        panic!(rt; "out of memory");
-    };
-    hold.set_port(PORT, room);
-    assert_eq!(rt; all.len(), 1);
+    let mut hold = opened(&rt, rt.alloc());
+    assert!(rt; all.len() == 1);
     let two = all.remove(0);
-    assert_eq!(rt; two.index(), 2);
+    assert!(rt; two.index() == 2);
     hold.add(FIRST, two);
     assert!(rt; !hold.is_empty());
     assert!(rt; hold.bytes_mut(2).is_none() && hold.bytes_mut(3).is_none());
@@ -165,6 +186,13 @@ fn open(hold: &mut Hold, port: u32, extra: u32) -> Result<(), NoMemory>
     Ok(())
 }
 
+/// So many extra positions have the ports 3 to 6.
+fn count_extras(rt: &impl Abort, hold: &Hold, counts: [u32; 4]) {
+    for (port, count) in (3u32..).zip(counts) {
+        assert!(rt; hold.extra_count(PortId(port)) == count, "port {port}");
+    }
+}
+
 /// Of four ports the first three go, and then one more comes.
 fn four_ports(rt: &impl Abort, hold: &mut Hold) -> Result<(), NoMemory>
     requires { hold.old ≡ empty_hold 8 }
@@ -177,14 +205,9 @@ fn four_ports(rt: &impl Abort, hold: &mut Hold) -> Result<(), NoMemory>
     hold.drop_port(PortId(4));
     hold.drop_port(PortId(3));
     hold.drop_port(PortId(5));
-    assert_eq!(rt; hold.extra_count(PortId(6)), 6);
+    count_extras(rt, hold, [0, 0, 0, 6]);
     open(hold, 4, 7)?;
-    assert_eq!(rt;
-        hold.extra_count(PortId(3)) + hold.extra_count(PortId(5)),
-        0
-    );
-    assert_eq!(rt; hold.extra_count(PortId(6)), 6);
-    assert_eq!(rt; hold.extra_count(PortId(4)), 7);
+    count_extras(rt, hold, [0, 7, 0, 6]);
     Ok(())
 }
 

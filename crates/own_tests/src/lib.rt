@@ -8,4 +8,6 @@ mod own;
 #[cfg(test)]
 mod port;
 #[cfg(test)]
+mod steps;
+#[cfg(test)]
 mod sync;

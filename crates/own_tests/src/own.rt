@@ -3,20 +3,18 @@ ghost use Rattle.nm_own.specs.Words.{IsPoolSize, empty_own, indices_of, refusal_
 ghost use Rattle.nm_own.specs.Words.{vec_capacity};
 ghost use Rattle.nm_own.specs.LentOffers.{IsLentOffers};
 
-use nm_own::{LentOffers, OwnSide, SlotPlace};
+use crate::steps::{Look, PORT, SHORT, Step, WHOLE, astray, check_push, play, see};
+use nm_own::{LentOffers, OwnSide};
 use nm_region::{Buf, Region};
-use nm_types::{Batch, Name, PortId, Side, Slot, SlotWrite, SyncFault};
+use nm_types::{Chain, Name, PortId, Side, SlotWrite, SyncFault};
 use std::alloc::Global;
 use std::process::Abort;
 use std::test::Fail;
 
-pub(crate) const PORT: PortId = PortId(2);
+/// A frame of four parts, one byte longer than one of three, and one of three.
+const FOUR_PARTS: &[u8] = &[7; 6145];
 
-/// A broadcast from 02:00:00:00:00:0a.
-pub(crate) const FRAME: [u8; 14] = [255, 255, 255, 255, 255, 255, 2, 0, 0, 0, 0, 10, 136, 181];
-
-/// The bytes of a frame of four parts, one more than those of three.
-const LONG: [u8; 6145] = [7; 6145];
+const THREE_PARTS: &[u8] = &[7; 5000];
 
 /// Writes to slot 0 of a push of one frame, and what refuses the sync then. The transmit slots hold
 /// the buffers 2 to 5 of a pool of 64, the last one is the kernel side's, and 6 is an extra buffer.
@@ -85,226 +83,155 @@ const POSITIONS: [(u32, u32, Option<SyncFault>); 4] = [
     (3, 3, None),
 ];
 
-fn slot(buf_idx: u32, len: u16, flags: u16) -> Option<Slot> {
-    Some(Slot {
-        buf_idx,
-        len,
-        flags,
-        ptr: 0,
-    })
-}
-
-fn slot_at(own: &OwnSide, at: u32) -> Option<Slot> {
-    match own.slot(PORT, Side::Tx, at) {
-        Some(slot) => Some(*slot),
-        None => None,
-    }
-}
-
-/// What refuses a sync of the port's ring.
-fn refusal(rt: &impl Abort, own: &mut OwnSide, side: Side) -> Option<SyncFault>
-    ensures { own.new ≡ own.old }
-{
-    assert!(rt; own.ring(PORT, side).is_some());
-    own.check(PORT, side).err()
-}
-
-/// Whether one frame alone is pushed, and has these bytes.
-fn is_pushed(rt: &impl Abort, own: &mut OwnSide, alloc: Global, bytes: &[u8]) -> bool {
-    assert!(rt; own.ring(PORT, Side::Tx).is_some());
-    match own.check(PORT, Side::Tx) {
-        Ok(()) => match own.frames(alloc, PORT) {
-            Ok(batch) => batch.len() == 1 && batch.frame(0) == bytes,
-            Err(_) => false,
-        },
-        Err(_) => false,
-    }
-}
-
 /// One frame is put, slot 0 is written, the sync is judged, and the ring is reset.
-fn write_each(rt: &impl Abort, own: &mut OwnSide) {
+fn write_each(rt: &impl Abort, own: &mut OwnSide, alloc: Global) {
     for (write, wanted) in WRITES {
-        own.put_frame(PORT, &FRAME);
-        own.write_slot(PORT, Side::Tx, 0, write);
-        assert!(rt; refusal(rt, own, Side::Tx) == wanted, "{write:?}");
-        own.reset(PORT, Side::Tx);
-        assert!(rt; slot_at(own, 0) == slot(2, 0, 0), "{write:?}");
+        let steps = [
+            Step::Put(WHOLE),
+            Step::Write(0, write),
+            Step::Sees(Look::Refused(Side::Tx, wanted)),
+            Step::Reset,
+            Step::Sees(Look::Slot(Side::Tx, 0, 2, 0, 0)),
+        ];
+        assert!(rt; astray(rt, own, alloc, &steps).is_none(), "{write:?}");
     }
 }
 
 /// Head and cur are written, the sync is judged, and the ring is reset.
-fn move_each(rt: &impl Abort, own: &mut OwnSide) {
+fn move_each(rt: &impl Abort, own: &mut OwnSide, alloc: Global) {
     for (head, cur, wanted) in POSITIONS {
-        own.put_positions(PORT, Side::Tx, head, cur);
-        assert!(rt; refusal(rt, own, Side::Tx) == wanted, "{head} {cur}");
-        own.reset(PORT, Side::Tx);
-        assert!(rt; own.has_room(PORT, 14), "{head} {cur}");
-    }
-    let out = SyncFault::HeadOut {
-        head: 1,
-        from: 0,
-        to: 0,
-    };
-    own.put_positions(PORT, Side::Rx, 1, 1);
-    assert!(rt; refusal(rt, own, Side::Rx) == Some(out));
-    own.give_all_back(PORT);
-    assert!(rt; refusal(rt, own, Side::Rx).is_none());
-}
-
-/// Two slots are swapped with marks, and back without: then the first one is refused.
-fn swap(rt: &impl Abort, own: &mut OwnSide) {
-    let [here, there] = [0, 1].map(|at| SlotPlace {
-        port: PORT,
-        side: Side::Tx,
-        at,
-    });
-    own.put_frame(PORT, &FRAME);
-    own.put_frame(PORT, &FRAME);
-    own.swap_slots(here, there, true);
-    assert!(rt; slot_at(own, 0) == slot(3, 14, 1) && slot_at(own, 1) == slot(2, 14, 1));
-    assert!(rt; refusal(rt, own, Side::Tx).is_none());
-    own.reset(PORT, Side::Tx);
-    own.swap_slots(here, there, false);
-    own.put_positions(PORT, Side::Tx, 2, 2);
-    let unannounced = SyncFault::Unannounced {
-        slot: 0,
-        idx: 3,
-        was: 2,
-    };
-    assert!(rt; refusal(rt, own, Side::Tx) == Some(unannounced));
-    own.reset(PORT, Side::Tx);
-}
-
-/// A ring of four slots takes three frames; nothing is forwarded from an empty receive ring.
-fn fill(rt: &impl Abort, own: &mut OwnSide, alloc: Global) {
-    own.forward(PORT, PORT, 9);
-    own.put_frame(PORT, &FRAME);
-    assert!(rt; is_pushed(rt, own, alloc, &FRAME));
-    for _ in 0..3 {
-        own.put_frame(PORT, &FRAME);
-    }
-    assert!(rt; !own.has_room(PORT, 14));
-    assert!(rt; slot_at(own, 2) == slot(4, 14, 0) && slot_at(own, 3).is_none());
-}
-
-/// A frame of three parts takes the three slots that a ring of four has, and one of four does not fit.
-fn put_long(rt: &impl Abort, own: &mut OwnSide, alloc: Global) {
-    assert!(rt; own.has_room(PORT, 6144) && !own.has_room(PORT, 6145));
-    own.put_frame(PORT, &LONG);
-    assert!(rt; slot_at(own, 0) == slot(2, 0, 0));
-    own.put_frame(PORT, &LONG[..5000]);
-    assert!(rt; slot_at(own, 0) == slot(2, 2048, 32) && slot_at(own, 1) == slot(3, 2048, 32));
-    assert!(rt; slot_at(own, 2) == slot(4, 904, 0) && !own.has_room(PORT, 0));
-    assert!(rt; is_pushed(rt, own, alloc, &LONG[..5000]));
-    own.reset(PORT, Side::Tx);
-}
-
-/// Sends what is pushed, which no check refuses.
-fn send(rt: &impl Abort, own: &mut OwnSide) {
-    assert!(rt; own.ring(PORT, Side::Tx).is_some());
-    match own.check(PORT, Side::Tx) {
-        Ok(()) => own.sent(PORT),
-        Err(fault) => panic!(rt; "{fault:?}"),
+        let steps = [
+            Step::Move(Side::Tx, head, cur),
+            Step::Sees(Look::Refused(Side::Tx, wanted)),
+            Step::Reset,
+            Step::Sees(Look::Room(14, true)),
+        ];
+        assert!(rt; astray(rt, own, alloc, &steps).is_none(), "{head} {cur}");
     }
 }
 
-/// Three frames are sent, and a fourth in a slot that changed its buffer with another one.
-fn exchange(rt: &impl Abort, own: &mut OwnSide) {
-    send(rt, own);
-    assert!(rt; own.has_room(PORT, 0));
-    assert!(rt; slot_at(own, 3) == slot(5, 0, 0) && slot_at(own, 2).is_none());
-    let [here, there] = [3, 0].map(|at| SlotPlace {
-        port: PORT,
-        side: Side::Tx,
-        at,
-    });
-    own.swap_slots(here, there, true);
-    own.put_frame(PORT, &FRAME);
-    send(rt, own);
-}
-
-/// The places have changed their buffers then, and the other slot is accepted as it is.
-fn accept_exchanged(rt: &impl Abort, own: &mut OwnSide) {
-    assert!(rt; slot_at(own, 0) == slot(5, 14, 1) && slot_at(own, 3).is_none());
-    own.put_positions(PORT, Side::Tx, 1, 1);
-    assert!(rt; refusal(rt, own, Side::Tx).is_none());
-    own.reset(PORT, Side::Tx);
-    assert!(rt; slot_at(own, 0) == slot(5, 0, 0));
-}
-
-/// The first bytes of a buffer, if the user may name it.
-pub(crate) fn starts_with(own: &OwnSide, idx: u32, bytes: &[u8]) -> bool {
-    match own.bytes(idx) {
-        Some(all) => all.starts_with(bytes),
-        None => false,
-    }
-}
-
-/// Links of the port's extra positions, of which there is one, and the head of the list and the first
-/// bytes of the extra buffer then.
-const LINKS: [(u32, u32, u32, [u8; 4]); 5] = [
-    (1, 1, 6, [6, 0, 0, 0]),
-    (1, 2, 6, [6, 0, 0, 0]),
-    (2, 0, 6, [6, 0, 0, 0]),
-    (1, 0, 6, [0, 0, 0, 0]),
-    (0, 0, 0, [0, 0, 0, 0]),
+/// An empty receive ring, of which all goes back.
+const EMPTY: &[Step] = &[
+    Step::Move(Side::Rx, 1, 1),
+    Step::Sees(Look::Refused(
+        Side::Rx,
+        Some(SyncFault::HeadOut {
+            head: 1,
+            from: 0,
+            to: 0,
+        }),
+    )),
+    Step::GiveAllBack,
+    Step::Sees(Look::Refused(Side::Rx, None)),
 ];
 
-/// The only extra buffer is linked, and the head of the list stored.
-fn link(rt: &impl Abort, own: &mut OwnSide) {
-    assert_eq!(rt; own.extra_head(PORT), Some(6));
-    for (from, to, head, first) in LINKS {
-        own.link_extra(PORT, from, to);
-        assert_eq!(rt; own.extra_head(PORT), Some(head));
-        assert!(rt; starts_with(own, 6, &first), "{from} {to}");
-    }
-    own.set_extra_head(PORT, 4294967295);
-    assert_eq!(rt; own.extra_head(PORT), Some(4294967295));
-    own.link_extra(PORT, 0, 1);
-    assert_eq!(rt; own.extra_head(PORT), Some(6));
-}
+/// A frame of three parts takes the three slots that a ring of four has, and one of four does not fit.
+const PARTS: &[Step] = &[
+    Step::Sees(Look::Room(6144, true)),
+    Step::Sees(Look::Room(6145, false)),
+    Step::Put(FOUR_PARTS),
+    Step::Sees(Look::Slot(Side::Tx, 0, 2, 0, 0)),
+    Step::Put(THREE_PARTS),
+    Step::Sees(Look::Slot(Side::Tx, 0, 2, 2048, 32)),
+    Step::Sees(Look::Slot(Side::Tx, 1, 3, 2048, 32)),
+    Step::Sees(Look::Slot(Side::Tx, 2, 4, 904, 0)),
+    Step::Sees(Look::Room(0, false)),
+    Step::Sees(Look::Pushed(THREE_PARTS)),
+    Step::Reset,
+];
+
+/// Two slots are swapped with marks, and back without: then the first one is refused.
+const SWAPS: &[Step] = &[
+    Step::Put(WHOLE),
+    Step::Put(WHOLE),
+    Step::Swap(0, 1, true),
+    Step::Sees(Look::Slot(Side::Tx, 0, 3, 14, 1)),
+    Step::Sees(Look::Slot(Side::Tx, 1, 2, 14, 1)),
+    Step::Sees(Look::Refused(Side::Tx, None)),
+    Step::Reset,
+    Step::Swap(0, 1, false),
+    Step::Move(Side::Tx, 2, 2),
+    Step::Sees(Look::Refused(
+        Side::Tx,
+        Some(SyncFault::Unannounced {
+            slot: 0,
+            idx: 3,
+            was: 2,
+        }),
+    )),
+    Step::Reset,
+];
+
+/// A ring of four slots takes three frames; nothing is forwarded from an empty receive ring.
+const FULL: &[Step] = &[
+    Step::Forward,
+    Step::Put(WHOLE),
+    Step::Sees(Look::Pushed(WHOLE)),
+    Step::Put(WHOLE),
+    Step::Put(WHOLE),
+    Step::Put(WHOLE),
+    Step::Sees(Look::Room(14, false)),
+    Step::Sees(Look::Slot(Side::Tx, 2, 4, 14, 0)),
+    Step::Sees(Look::Users(Side::Tx, 3, false)),
+];
+
+/// Three frames are sent, and a fourth in a slot that changed its buffer with another one. The places
+/// have changed their buffers then, and the other slot is accepted as it is.
+const EXCHANGE: &[Step] = &[
+    Step::Send,
+    Step::Sees(Look::Room(0, true)),
+    Step::Sees(Look::Slot(Side::Tx, 3, 5, 0, 0)),
+    Step::Sees(Look::Users(Side::Tx, 2, false)),
+    Step::Swap(3, 0, true),
+    Step::Put(WHOLE),
+    Step::Send,
+    Step::Sees(Look::Slot(Side::Tx, 0, 5, 14, 1)),
+    Step::Sees(Look::Users(Side::Tx, 3, false)),
+    Step::Move(Side::Tx, 1, 1),
+    Step::Sees(Look::Refused(Side::Tx, None)),
+    Step::Reset,
+    Step::Sees(Look::Slot(Side::Tx, 0, 5, 0, 0)),
+];
+
+/// The port's extra positions, of which there is one, are linked, and the head of the list is stored.
+/// The first bytes of the extra buffer are its link.
+const LINKS: &[Step] = &[
+    Step::Sees(Look::Head(6)),
+    Step::Link(1, 1),
+    Step::Sees(Look::Head(6)),
+    Step::Sees(Look::Starts(6, &[6, 0, 0, 0])),
+    Step::Link(1, 2),
+    Step::Sees(Look::Head(6)),
+    Step::Sees(Look::Starts(6, &[6, 0, 0, 0])),
+    Step::Link(2, 0),
+    Step::Sees(Look::Head(6)),
+    Step::Sees(Look::Starts(6, &[6, 0, 0, 0])),
+    Step::Link(1, 0),
+    Step::Sees(Look::Head(6)),
+    Step::Sees(Look::Starts(6, &[0, 0, 0, 0])),
+    Step::Link(0, 0),
+    Step::Sees(Look::Head(0)),
+    Step::Sees(Look::Starts(6, &[0, 0, 0, 0])),
+    Step::Head(4294967295),
+    Step::Sees(Look::Head(4294967295)),
+    Step::Link(0, 1),
+    Step::Sees(Look::Head(6)),
+];
 
 /// Extra positions are numbered from 1. The buffer 2 stands in the slot of the kernel side, and
 /// nothing is written to it.
-fn number(rt: &impl Abort, own: &mut OwnSide) {
-    assert!(rt; own.extra_head(PortId(3)).is_none());
-    assert_eq!(rt; own.extra_numbered(PORT, 0), Some(0));
-    assert_eq!(rt; own.extra_numbered(PORT, 1), Some(6));
-    assert!(rt; own.extra_numbered(PORT, 2).is_none());
-    own.write_front(5, &[1, 2]);
-    own.write_front(2, &[1, 2]);
-    assert!(rt; starts_with(own, 5, &[1, 2]) && own.bytes(2).is_none());
-}
+const NUMBERS: &[Step] = &[
+    Step::Sees(Look::Numbered(0, Some(0))),
+    Step::Sees(Look::Numbered(1, Some(6))),
+    Step::Sees(Look::Numbered(2, None)),
+    Step::Front(5, [1, 2]),
+    Step::Front(2, [1, 2]),
+    Step::Sees(Look::Starts(5, &[1, 2])),
+    Step::Sees(Look::Named(2, false)),
+];
 
-/// The frames that are offered to a pipe, if no check refuses the push.
-fn offers(rt: &impl Abort, own: &mut OwnSide, alloc: Global) -> Option<Batch> {
-    assert!(rt; own.ring(PORT, Side::Tx).is_some());
-    match own.check(PORT, Side::Tx) {
-        Ok(()) => own.offers(alloc, PORT).ok(),
-        Err(_) => None,
-    }
-}
-
-/// The number of buffers that a receive sync gives back, if no check refuses it.
-fn back_count(rt: &impl Abort, own: &mut OwnSide, alloc: Global) -> Option<usize> {
-    assert!(rt; own.ring(PORT, Side::Rx).is_some());
-    match own.check(PORT, Side::Rx) {
-        Ok(()) => own.back(alloc, PORT).ok().map(|names| names.len()),
-        Err(_) => None,
-    }
-}
-
-/// A push on a side of the port that no check refuses.
-pub(crate) fn check_push(rt: &impl Abort, own: &mut OwnSide, side: Side)
-    ensures own { own.new ≡ own.old }
-    ensures ring { IsSome (ring_at side own.old.own PORT.0) }
-    ensures passes { refusal_at side PORT.0 own.old.own ≡ None }
-{
-    assert!(rt; own.ring(PORT, side).is_some());
-    if let Err(fault) = own.check(PORT, side) {
-        panic!(rt; "{fault:?}");
-    }
-}
+/// The life of the port.
+const LIFE: [&[Step]; 7] = [EMPTY, PARTS, SWAPS, FULL, EXCHANGE, LINKS, NUMBERS];
 
 /// An empty vector for some numbers, of which there are no more than `most`.
 pub(crate) fn numbers(rt: &impl Abort, alloc: Global, count: usize, most: usize) -> Vec<u32>
@@ -348,26 +275,27 @@ fn take_none(rt: &impl Abort, own: OwnSide, alloc: Global) -> OwnSide {
     own
 }
 
+/// A frame was offered to a peer that is gone. It is offered again with the next one.
+const OFFERED: &[Step] = &[
+    Step::Sees(Look::Users(Side::Tx, 0, false)),
+    Step::Sees(Look::Users(Side::Tx, 1, true)),
+    Step::Sees(Look::Users(Side::Tx, 2, true)),
+    Step::Sees(Look::Users(Side::Tx, 3, false)),
+    Step::Sees(Look::Named(5, false)),
+    Step::Sees(Look::Named(3, true)),
+    Step::Reset,
+    Step::Sees(Look::Users(Side::Tx, 0, false)),
+    Step::Put(SHORT),
+    Step::Sees(Look::Offered(&[WHOLE, SHORT])),
+    Step::Sees(Look::Back(0)),
+];
+
 /// A frame is offered to a peer that is gone: its slot stays pushed, and its buffer cannot be
-/// named. It is offered again with the next one.
+/// named.
 fn offer(rt: &impl Abort, mut own: OwnSide, alloc: Global) -> OwnSide {
-    own.put_frame(PORT, &FRAME);
+    play(rt, &mut own, alloc, &[Step::Put(WHOLE)]);
     let mut own = take_none(rt, own, alloc);
-    assert!(rt; slot_at(&own, 0).is_none() && slot_at(&own, 1).is_some());
-    assert!(rt; slot_at(&own, 2).is_some() && slot_at(&own, 3).is_none());
-    assert!(rt; own.bytes(5).is_none() && own.bytes(3).is_some());
-    own.reset(PORT, Side::Tx);
-    assert!(rt; slot_at(&own, 0).is_none());
-    own.put_frame(PORT, &FRAME[..7]);
-    match offers(rt, &mut own, alloc) {
-        Some(batch) => {
-            assert_eq!(rt; batch.len(), 2);
-            assert!(rt; batch.frame(0) == FRAME.as_slice());
-            assert!(rt; batch.frame(1) == &FRAME[..7]);
-        }
-        None => panic!(rt; "no frames"),
-    }
-    assert_eq!(rt; back_count(rt, &mut own, alloc), Some(0));
+    play(rt, &mut own, alloc, OFFERED);
     own
 }
 
@@ -384,8 +312,8 @@ fn put_four(bufs: &mut Vec<Buf>, one: Buf, two: Buf, three: Buf, four: Buf)
 }
 
 /// A port that is prepared is not opened. Another one opens, of four slots in each ring with an
-/// extra buffer, and is used.
-fn play(
+/// extra buffer.
+fn open(
     rt: &impl Abort,
     own: &mut OwnSide,
     alloc: Global,
@@ -403,74 +331,118 @@ fn play(
         Ok(new) => own.add(new, PORT, tx, extra),
         Err(_fault) => panic!(rt; "out of memory"),
     }
-    assert!(rt; slot_at(own, 0) == slot(2, 0, 0) && slot_at(own, 2) == slot(4, 0, 0));
-    write_each(rt, own);
-    move_each(rt, own);
-    put_long(rt, own, alloc);
-    swap(rt, own);
-    fill(rt, own, alloc);
-    exchange(rt, own);
-    accept_exchanged(rt, own);
-    link(rt, own);
-    number(rt, own);
+}
+
+/// What is seen of a new port.
+const OPENED: &[Look] = &[
+    Look::Slot(Side::Tx, 0, 2, 0, 0),
+    Look::Slot(Side::Tx, 2, 4, 0, 0),
+];
+
+/// The port is used.
+fn live(rt: &impl Abort, own: &mut OwnSide, alloc: Global) {
+    see(rt, own, alloc, OPENED);
+    write_each(rt, own, alloc);
+    move_each(rt, own, alloc);
+    for steps in LIFE {
+        play(rt, own, alloc, steps);
+    }
+    assert!(rt; own.extra_head(PortId(3)).is_none());
+}
+
+/// Removes the port, and ends the own side.
+pub(crate) fn close_port(rt: &impl Abort, mut own: OwnSide) -> (Vec<Buf>, Chain) {
+    assert!(rt; own.has_port(PORT));
+    let (back, chain) = own.close_port(PORT);
+    assert!(rt; own.is_empty());
+    own.close();
+    (back, chain)
+}
+
+/// Whether the buffers are those of these indices, in order.
+pub(crate) fn have_indices(bufs: &[Buf], indices: &[u32]) -> bool {
+    bufs.len() == indices.len() && bufs.iter().zip(indices).all(|(b, i)| b.index() == *i)
+}
+
+/// Whether the port alone is there, with five buffers.
+fn is_whole(own: &OwnSide) -> bool {
+    own.has_port(PORT)
+        && !own.has_port(PortId(3))
+        && !own.is_empty()
+        && own.buffer_count(PortId(3)) == 0
+        && own.buffer_count(PORT) == 5
 }
 
 /// Closes the port, and then the own side. The port's buffers come in the order of its places.
-fn close(rt: &impl Abort, mut own: OwnSide) -> Vec<Buf> {
-    assert!(rt; own.has_port(PORT) && !own.has_port(PortId(3)) && !own.is_empty());
-    assert_eq!(rt; own.buffer_count(PortId(3)), 0);
-    assert_eq!(rt; own.buffer_count(PORT), 5);
-    assert!(rt; own.has_port(PORT));
-    let (back, chain) = own.close_port(PORT);
-    assert_eq!(rt; chain.found, 1);
-    assert_eq!(rt; chain.astray, 0);
-    assert!(rt; own.is_empty());
-    own.close();
-    for (buf, wanted) in back.iter().zip([5, 3, 4, 2, 6]) {
-        assert_eq!(rt; buf.index(), wanted);
-    }
-    assert_eq!(rt; back.len(), 5);
-    assert!(rt; back[3].bytes().starts_with(&FRAME));
+fn close(rt: &impl Abort, own: OwnSide) -> Vec<Buf> {
+    assert!(rt; is_whole(&own));
+    let (back, chain) = close_port(rt, own);
+    assert!(rt;
+        chain
+            == Chain {
+                found: 1,
+                astray: 0
+            }
+    );
+    assert!(rt; have_indices(&back, &[5, 3, 4, 2, 6]));
+    assert!(rt; back.len() == 5);
+    assert!(rt; back[3].bytes().starts_with(WHOLE));
     back
 }
 
-/// A region's buffers, the first four of them apart, with a name and an own side without ports.
+/// An own side without ports.
+fn own_side(rt: &impl Abort, alloc: Global) -> OwnSide
+    ensures { result.own ≡ empty_own 64 }
+{
+    match OwnSide::new(alloc, 64) {
+        Ok(own) => own,
+        Err(_) => panic!(rt; "out of memory"),
+    }
+}
+
+pub(crate) fn port_name(rt: &impl Abort) -> Name {
+    match Name::parse("vale0:a") {
+        Ok(name) => name,
+        Err(_) => panic!(rt; "no name"),
+    }
+}
+
+/// A region's buffers, the first four of them apart, with an own side without ports.
 pub(crate) fn start(
     rt: &impl Abort,
     alloc: Global,
     more: u32,
-) -> (Region, Vec<Buf>, Vec<Buf>, Name, OwnSide)
+) -> (Region, Vec<Buf>, Vec<Buf>, OwnSide)
     requires { IsPoolSize (4 + more) }
-    ensures more { length result.1.items ≡ more }
     ensures four { indices_of result.2.items ≡ 2 ∷ 3 ∷ 4 ∷ 5 ∷ [] }
-    ensures own { result.4.own ≡ empty_own 64 }
+    ensures own { result.3.own ≡ empty_own 64 }
 {
     let Ok((region, mut all)) = Region::new(alloc, 4 + more) else {
         panic!(rt; "out of memory");
     };
-    let Ok(name) = Name::parse("vale0:a") else {
-        panic!(rt; "no name");
-    };
-    let Ok(own) = OwnSide::new(alloc, 64) else {
-        panic!(rt; "out of memory");
-    };
     let four = first_four(rt, alloc, &mut all);
-    assert!(rt; all.len() == more as usize);
-    (region, all, four, name, own)
+    (region, all, four, own_side(rt, alloc))
+}
+
+/// Takes the first buffer, which is that of an index.
+pub(crate) fn take_first(rt: &impl Abort, all: &mut Vec<Buf>, idx: u32) -> Buf
+    ensures { result.index ≡ idx }
+{
+    assert!(rt; !all.is_empty());
+    let buf = all.remove(0);
+    assert!(rt; buf.index() == idx);
+    buf
 }
 
 /// The first four of a region's buffers, 2 to 5.
 fn first_four(rt: &impl Abort, alloc: Global, all: &mut Vec<Buf>) -> Vec<Buf>
     ensures { indices_of result.items ≡ 2 ∷ 3 ∷ 4 ∷ 5 ∷ [] }
 {
-    let Ok(mut tx) = Vec::with_capacity(alloc, 4) else {
-        panic!(rt; "out of memory");
-    };
-    assert!(rt; all.len() >= 4);
-    let (two, three) = (all.remove(0), all.remove(0));
-    let (four, five) = (all.remove(0), all.remove(0));
-    assert!(rt; two.index() == 2 && three.index() == 3);
-    assert!(rt; four.index() == 4 && five.index() == 5);
+    let mut tx = room(rt, alloc, 4);
+    let two = take_first(rt, all, 2);
+    let three = take_first(rt, all, 3);
+    let four = take_first(rt, all, 4);
+    let five = take_first(rt, all, 5);
     put_four(&mut tx, two, three, four, five);
     tx
 }
@@ -491,12 +463,11 @@ pub(crate) fn room(rt: &impl Abort, alloc: Global, count: usize) -> Vec<Buf>
 #[should_panic(expected = "the buffers stay out of the region")]
 fn port_of_four_slots(rt: HostRuntime) {
     let alloc = rt.alloc();
-    let (_region, mut all, tx, name, mut own) = start(&rt, alloc, 1);
+    let (_region, mut all, tx, mut own) = start(&rt, alloc, 1);
     let mut extra = room(&rt, alloc, 1);
-    let six = all.remove(0);
-    assert!(rt; six.index() == 6);
-    extra.push_reserved(six);
-    play(&rt, &mut own, alloc, name, tx, extra);
+    extra.push_reserved(take_first(&rt, &mut all, 6));
+    open(&rt, &mut own, alloc, port_name(&rt), tx, extra);
+    live(&rt, &mut own, alloc);
     let own = offer(&rt, own, alloc);
     let _back = close(&rt, own);
     panic!(rt; "the buffers stay out of the region");

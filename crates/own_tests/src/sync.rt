@@ -1,36 +1,17 @@
-ghost use Rattle.std.specs.Prelude.{◌≡◌, ◌≤◌, ◌∷◌, []};
-ghost use Rattle.nm_own.specs.Words.{SideState, empty_own, indices_of, vec_capacity};
+ghost use Rattle.std.specs.Prelude.{◌≡◌, ◌≤◌, ◌+◌, ◌∷◌, []};
+ghost use Rattle.nm_own.specs.Words.{IsPoolSize, SideState, empty_own, indices_of, vec_capacity};
 ghost use Rattle.nm_own.specs.LentBack.{IsLentBack};
 
-use crate::own::{FRAME, PORT, check_push, lend_frames, numbers, room, start, starts_with};
+use crate::own::{
+    close_port, have_indices, lend_frames, numbers, port_name, room, start, take_first,
+};
+use crate::steps::{FRAME, Look, PORT, SHORT, Step, WHOLE, check_push, place, play, see};
 use nm_own::{LentBack, OwnSide, SlotPlace};
-use nm_region::Buf;
-use nm_types::{Name, Side, Slot};
+use nm_region::{Buf, Region};
+use nm_types::{Name, Side};
 use std::alloc::Global;
 use std::process::Abort;
 use std::test::Fail;
-
-fn place(side: Side, at: u32) -> SlotPlace {
-    SlotPlace {
-        port: PORT,
-        side,
-        at,
-    }
-}
-
-/// Whether a slot is the user's, and names a buffer with a frame of that length.
-fn is_slot(own: &OwnSide, side: Side, at: u32, buf_idx: u32, len: u16, flags: u16) -> bool {
-    let wanted = Slot {
-        buf_idx,
-        len,
-        flags,
-        ptr: 0,
-    };
-    match own.slot(PORT, side, at) {
-        Some(slot) => *slot == wanted,
-        None => false,
-    }
-}
 
 /// Publishes the first bytes of a buffer, all of whose bytes are 7 behind the broadcast, as a part
 /// behind which so many follow.
@@ -93,19 +74,41 @@ fn take_last(rt: &impl Abort, back: &mut Vec<Buf>, idx: u32) -> Buf
     }
 }
 
+/// What is seen of a receive ring that three frames fill.
+const FILLED: &[Look] = &[
+    Look::Receives(false),
+    Look::New(6, false),
+    Look::Slot(Side::Rx, 0, 6, 14, 0),
+    Look::Slot(Side::Rx, 1, 7, 7, 0),
+    Look::Slot(Side::Rx, 2, 8, 0, 0),
+    Look::Users(Side::Rx, 3, false),
+    Look::Starts(6, WHOLE),
+    Look::Starts(7, &[255, 255, 255, 255, 255, 255, 2, 0, 0]),
+    Look::Starts(8, &[0, 0, 0]),
+];
+
 /// Three frames fill a ring of four slots. Of each buffer only the frame is left.
-fn fill(rt: &impl Abort, own: &mut OwnSide, six: Buf, seven: Buf, eight: Buf) {
-    assert!(rt; six.index() == 6 && seven.index() == 7 && eight.index() == 8);
-    receive(rt, own, six, 14, 0);
-    receive(rt, own, seven, 7, 0);
-    receive(rt, own, eight, 0, 0);
-    assert!(rt; !own.can_receive(PORT) && !own.is_new(6));
-    assert!(rt; is_slot(own, Side::Rx, 0, 6, 14, 0) && is_slot(own, Side::Rx, 1, 7, 7, 0));
-    assert!(rt; is_slot(own, Side::Rx, 2, 8, 0, 0) && own.slot(PORT, Side::Rx, 3).is_none());
-    assert!(rt; starts_with(own, 6, &FRAME));
-    assert!(rt; starts_with(own, 7, &[255, 255, 255, 255, 255, 255, 2, 0, 0]));
-    assert!(rt; starts_with(own, 8, &[0, 0, 0]));
+fn fill(rt: &impl Abort, own: &mut OwnSide, alloc: Global, all: &mut Vec<Buf>) {
+    receive(rt, own, take_first(rt, all, 6), 14, 0);
+    receive(rt, own, take_first(rt, all, 7), 7, 0);
+    receive(rt, own, take_first(rt, all, 8), 0, 0);
+    see(rt, own, alloc, FILLED);
 }
+
+/// What is seen once the buffers of two slots are back.
+const CROSSED: &[Look] = &[
+    Look::New(6, true),
+    Look::New(7, true),
+    Look::Users(Side::Rx, 0, false),
+    Look::Users(Side::Rx, 1, false),
+    Look::Slot(Side::Rx, 2, 8, 0, 0),
+];
+
+/// What is seen once they brought frames again.
+const BROUGHT: &[Look] = &[
+    Look::Slot(Side::Rx, 3, 6, 1, 0),
+    Look::Slot(Side::Rx, 0, 7, 2, 0),
+];
 
 /// Two slots that name each other's buffers go back, and the buffers come in the order of the slots.
 /// Each brings a frame again, in the slots behind.
@@ -115,14 +118,21 @@ fn cross(rt: &impl Abort, own: OwnSide, alloc: Global, back: &mut Vec<Buf>) -> O
     ensures { vec_capacity back.new ≡ vec_capacity back.old }
 {
     let mut own = give_back(rt, own, alloc, back, 0, place(Side::Rx, 1), 2);
-    assert!(rt; back.len() == 2 && own.is_new(6) && own.is_new(7));
-    assert!(rt; own.slot(PORT, Side::Rx, 0).is_none() && own.slot(PORT, Side::Rx, 1).is_none());
-    assert!(rt; is_slot(&own, Side::Rx, 2, 8, 0, 0));
+    assert!(rt; have_indices(back, &[7, 6]));
+    see(rt, &mut own, alloc, CROSSED);
     receive(rt, &mut own, take_last(rt, back, 6), 1, 0);
     receive(rt, &mut own, take_last(rt, back, 7), 2, 0);
-    assert!(rt; is_slot(&own, Side::Rx, 3, 6, 1, 0) && is_slot(&own, Side::Rx, 0, 7, 2, 0));
+    see(rt, &mut own, alloc, BROUGHT);
     own
 }
+
+/// What is seen once the buffer of a transmit slot is back, and what its slot names then.
+const TRADED: &[Step] = &[
+    Step::Sees(Look::Named(2, false)),
+    Step::Sees(Look::Named(8, true)),
+    Step::Reset,
+    Step::Sees(Look::Slot(Side::Tx, 0, 8, 0, 0)),
+];
 
 /// A slot that names the buffer of a transmit slot gives that one back, and the other stands in the
 /// transmit slot's place.
@@ -132,10 +142,8 @@ fn trade(rt: &impl Abort, own: OwnSide, alloc: Global, back: &mut Vec<Buf>) -> O
     ensures { vec_capacity back.new ≡ vec_capacity back.old }
 {
     let mut own = give_back(rt, own, alloc, back, 2, place(Side::Tx, 0), 3);
-    assert!(rt; back.len() == 1 && back[0].index() == 2);
-    assert!(rt; own.bytes(2).is_none() && own.bytes(8).is_some());
-    own.reset(PORT, Side::Tx);
-    assert!(rt; is_slot(&own, Side::Tx, 0, 8, 0, 0));
+    assert!(rt; have_indices(back, &[2]));
+    play(rt, &mut own, alloc, TRADED);
     own
 }
 
@@ -151,29 +159,12 @@ fn cross_and_trade(rt: &impl Abort, own: OwnSide, alloc: Global) -> (OwnSide, Bu
     (own, two)
 }
 
-/// The number of frames that a put offers, and whether the first one is a given one.
-fn offers(rt: &impl Abort, own: &mut OwnSide, alloc: Global, first: &[u8]) -> usize
-    ensures { own.new ≡ own.old }
-{
-    check_push(rt, own, Side::Tx);
-    match own.offers(alloc, PORT) {
-        Ok(batch) => {
-            assert!(rt; batch.len() > 0);
-            assert!(rt; batch.frame(0) == first);
-            batch.len()
-        }
-        Err(_) => panic!(rt; "out of memory"),
-    }
-}
-
 /// Lends the buffers of two frames that a put offers, 8 and 3, which come back.
 fn lend_and_undo(rt: &impl Abort, own: OwnSide, alloc: Global) -> OwnSide {
     let mut pending = room(rt, alloc, 2);
     let (lent, lengths) = lend_frames(rt, own, alloc, &mut pending);
-    assert!(rt; lengths.len() == 2);
-    assert!(rt; lengths[0] == 14 && lengths[1] == 7);
-    assert!(rt; pending.len() == 2);
-    assert!(rt; pending[0].index() == 8 && pending[1].index() == 3);
+    assert!(rt; lengths.as_slice() == [14, 7].as_slice());
+    assert!(rt; have_indices(&pending, &[8, 3]));
     let own = lent.undo(&mut pending);
     pending.destroy_empty();
     own
@@ -193,41 +184,53 @@ fn take_one(rt: &impl Abort, own: OwnSide, alloc: Global, buf: Buf) -> (OwnSide,
     (own, went)
 }
 
+/// Whether a buffer is that of an index, and begins with a frame.
+fn is_frame(buf: &Buf, idx: u32, frame: &[u8]) -> bool {
+    buf.index() == idx && buf.bytes().starts_with(frame)
+}
+
+/// What is seen once the first of two frames is taken.
+const TAKEN: &[Look] = &[
+    Look::Slot(Side::Tx, 3, 5, 0, 0),
+    Look::Users(Side::Tx, 0, false),
+    Look::Named(2, false),
+    Look::Named(3, false),
+    Look::Named(5, true),
+];
+
 /// Two frames are offered, and one of them is taken, whose buffer goes. The slot of one that was taken
 /// keeps its length, and names a cleared buffer once it is the user's.
 fn offer(rt: &impl Abort, mut own: OwnSide, alloc: Global, buf: Buf) -> (OwnSide, Buf) {
-    own.put_frame(PORT, &FRAME);
-    own.put_frame(PORT, &FRAME[..7]);
+    play(rt, &mut own, alloc, &[Step::Put(WHOLE), Step::Put(SHORT)]);
     let mut own = lend_and_undo(rt, own, alloc);
-    assert_eq!(rt; offers(rt, &mut own, alloc, &FRAME), 2);
-    let (own, went) = take_one(rt, own, alloc, buf);
-    assert!(rt; went.index() == 8 && went.bytes().starts_with(&FRAME));
-    assert!(rt; is_slot(&own, Side::Tx, 3, 5, 0, 0) && own.slot(PORT, Side::Tx, 0).is_none());
-    assert!(rt; own.bytes(2).is_none() && own.bytes(3).is_none() && own.bytes(5).is_some());
+    see(rt, &mut own, alloc, &[Look::Offered(&[WHOLE, SHORT])]);
+    let (mut own, went) = take_one(rt, own, alloc, buf);
+    assert!(rt; is_frame(&went, 8, WHOLE));
+    see(rt, &mut own, alloc, TAKEN);
     (own, went)
 }
 
+/// What is seen once the other one is taken.
+const TAKEN_TOO: &[Look] = &[
+    Look::Slot(Side::Tx, 0, 2, 14, 0),
+    Look::Users(Side::Tx, 1, false),
+    Look::Starts(2, &[0; 14]),
+];
+
 /// The other one is offered again, and taken; answers its buffer.
 fn offer_rest(rt: &impl Abort, mut own: OwnSide, alloc: Global, buf: Buf) -> (OwnSide, Buf) {
-    assert_eq!(rt; offers(rt, &mut own, alloc, &FRAME[..7]), 1);
-    let (own, other) = take_one(rt, own, alloc, buf);
-    assert!(rt; other.index() == 3 && other.bytes().starts_with(&FRAME[..7]));
-    assert!(rt; is_slot(&own, Side::Tx, 0, 2, 14, 0) && own.slot(PORT, Side::Tx, 1).is_none());
-    assert!(rt; starts_with(&own, 2, &[0; 14]));
+    see(rt, &mut own, alloc, &[Look::Offered(&[SHORT])]);
+    let (mut own, other) = take_one(rt, own, alloc, buf);
+    assert!(rt; is_frame(&other, 3, SHORT));
+    see(rt, &mut own, alloc, TAKEN_TOO);
     (own, other)
 }
 
 /// Closes the port and the own side: the buffers come in the order of the places.
-fn close(rt: &impl Abort, mut own: OwnSide) -> Vec<Buf> {
-    assert!(rt; own.has_port(PORT));
-    assert_eq!(rt; own.buffer_count(PORT), 6);
-    let (back, _chain) = own.close_port(PORT);
-    assert!(rt; own.is_empty());
-    own.close();
-    for (buf, wanted) in back.iter().zip([2, 8, 4, 5, 6, 7]) {
-        assert_eq!(rt; buf.index(), wanted);
-    }
-    assert_eq!(rt; back.len(), 6);
+fn close(rt: &impl Abort, own: OwnSide) -> Vec<Buf> {
+    assert!(rt; own.buffer_count(PORT) == 6);
+    let (back, _chain) = close_port(rt, own);
+    assert!(rt; have_indices(&back, &[2, 8, 4, 5, 6, 7]));
     back
 }
 
@@ -241,24 +244,44 @@ fn open(rt: &impl Abort, own: &mut OwnSide, alloc: Global, name: Name, tx: Vec<B
         Ok(new) => own.add(new, PORT, tx, Vec::new(alloc)),
         Err(_fault) => panic!(rt; "out of memory"),
     }
-    assert!(rt; own.slot(PORT, Side::Rx, 0).is_none());
 }
 
+/// A port of four slots in each ring is opened, with so many more buffers of the region. No receive
+/// slot is the user's then.
+fn opened(rt: &impl Abort, alloc: Global, more: u32) -> (Region, Vec<Buf>, OwnSide)
+    requires { IsPoolSize (4 + more) }
+{
+    let (region, all, tx, mut own) = start(rt, alloc, more);
+    open(rt, &mut own, alloc, port_name(rt), tx);
+    see(rt, &mut own, alloc, &[Look::Users(Side::Rx, 0, false)]);
+    (region, all, own)
+}
+
+/// The first part of a frame does not go on.
+const FIRST_PART: &[Step] = &[
+    Step::Forward,
+    Step::Sees(Look::Slot(Side::Rx, 0, 6, 14, 288)),
+    Step::Sees(Look::Slot(Side::Tx, 0, 2, 0, 0)),
+];
+
+/// With the second one it does.
+const BOTH_PARTS: &[Step] = &[
+    Step::Forward,
+    Step::Sees(Look::Slot(Side::Rx, 0, 2, 14, 289)),
+    Step::Sees(Look::Slot(Side::Rx, 1, 3, 7, 1)),
+    Step::Sees(Look::Slot(Side::Tx, 0, 6, 14, 33)),
+    Step::Sees(Look::Slot(Side::Tx, 1, 7, 7, 1)),
+    Step::Sees(Look::Pushed(&[
+        255, 255, 255, 255, 255, 255, 2, 0, 0, 0, 0, 10, 136, 181, 255, 255, 255, 255, 255, 255, 2,
+    ])),
+];
+
 /// A frame of two parts comes, and goes on to the transmit ring in as many slots, which say so.
-fn forward_long(rt: &impl Abort, own: &mut OwnSide, alloc: Global, six: Buf, seven: Buf) {
-    assert!(rt; six.index() == 6 && seven.index() == 7);
-    receive(rt, own, six, 14, 1);
-    own.forward(PORT, PORT, 9);
-    assert!(rt; is_slot(own, Side::Rx, 0, 6, 14, 288) && is_slot(own, Side::Tx, 0, 2, 0, 0));
-    receive(rt, own, seven, 7, 0);
-    own.forward(PORT, PORT, 9);
-    assert!(rt; is_slot(own, Side::Rx, 0, 2, 14, 289) && is_slot(own, Side::Rx, 1, 3, 7, 1));
-    assert!(rt; is_slot(own, Side::Tx, 0, 6, 14, 33) && is_slot(own, Side::Tx, 1, 7, 7, 1));
-    check_push(rt, own, Side::Tx);
-    match own.frames(alloc, PORT) {
-        Ok(batch) => assert!(rt; batch.len() == 1 && batch.frame(0).len() == 21),
-        Err(_) => panic!(rt; "out of memory"),
-    }
+fn forward_long(rt: &impl Abort, own: &mut OwnSide, alloc: Global, all: &mut Vec<Buf>) {
+    receive(rt, own, take_first(rt, all, 6), 14, 1);
+    play(rt, own, alloc, FIRST_PART);
+    receive(rt, own, take_first(rt, all, 7), 7, 0);
+    play(rt, own, alloc, BOTH_PARTS);
 }
 
 /// The buffers are not given back to the region: the test ends by the panic that it expects.
@@ -266,14 +289,9 @@ fn forward_long(rt: &impl Abort, own: &mut OwnSide, alloc: Global, six: Buf, sev
 #[should_panic(expected = "the buffers stay out of the region")]
 fn frames_go_on(rt: HostRuntime) {
     let alloc = rt.alloc();
-    let (_region, mut all, tx, name, mut own) = start(&rt, alloc, 2);
-    let (six, seven) = (all.remove(0), all.remove(0));
-    open(&rt, &mut own, alloc, name, tx);
-    forward_long(&rt, &mut own, alloc, six, seven);
-    assert!(rt; own.has_port(PORT));
-    let (_back, _chain) = own.close_port(PORT);
-    assert!(rt; own.is_empty());
-    own.close();
+    let (_region, mut all, mut own) = opened(&rt, alloc, 2);
+    forward_long(&rt, &mut own, alloc, &mut all);
+    let _ended = close_port(&rt, own);
     panic!(rt; "the buffers stay out of the region");
 }
 
@@ -282,10 +300,8 @@ fn frames_go_on(rt: HostRuntime) {
 #[should_panic(expected = "the buffers stay out of the region")]
 fn frames_come_and_go(rt: HostRuntime) {
     let alloc = rt.alloc();
-    let (_region, mut all, tx, name, mut own) = start(&rt, alloc, 3);
-    let (six, seven, eight) = (all.remove(0), all.remove(0), all.remove(0));
-    open(&rt, &mut own, alloc, name, tx);
-    fill(&rt, &mut own, six, seven, eight);
+    let (_region, mut all, mut own) = opened(&rt, alloc, 3);
+    fill(&rt, &mut own, alloc, &mut all);
     let (own, two) = cross_and_trade(&rt, own, alloc);
     let (own, went) = offer(&rt, own, alloc, two);
     let (own, _other) = offer_rest(&rt, own, alloc, went);

@@ -4,7 +4,7 @@ ghost use Rattle.nm_types.specs.Sendable.{IsFrame};
 use nm_types::{Batch, MAX_FRAME_BYTES, PortId};
 use std::alloc::Global;
 use std::process::Abort;
-use vale_batch::{Lists, Lookup, classify};
+use vale_batch::{Dest, Lists, Lookup, classify};
 use vale_learn::Table;
 
 /// From 02:00:00:00:00:0a to all.
@@ -21,10 +21,10 @@ const LONG: &[u8] = &[255; 5000];
 
 /// Asserts that the frames are few and not too long.
 fn batch_of(rt: &impl Abort, alloc: Global, frames: &[(&[u8], bool)]) -> Batch
-    requires { length frames.now ≤ 8 }
     ensures frames { All IsFrame result }
     ensures few { length result ≤ 8 }
 {
+    assert!(rt; frames.len() <= 8);
     let mut batch = Batch::new(alloc);
     for at in 0..frames.len() {
         let (bytes, no_learn) = frames[at];
@@ -59,28 +59,34 @@ impl Switch {
         from: u32,
         frames: &[(&[u8], bool)],
         counts: (usize, u32, u32),
-    ) -> Lists
-        requires { length frames.now ≤ 8 }
-    {
+    ) -> Lists {
         let batch = batch_of(rt, self.alloc, frames);
         let ports = [PortId(4), PortId(5), PortId(6)];
         let Ok(lists) = classify(self.alloc, &mut self.table, &ports, PortId(from), &batch) else {
             panic!(rt; "no memory");
         };
-        assert!(rt; (lists.len(), lists.short(), lists.lone()) == counts);
+        count(rt, &lists, counts);
         lists
     }
 
     /// The port to which all of some frames from a port go, each to it alone.
-    fn sole(&mut self, rt: &impl Abort, from: u32, frames: &[(&[u8], bool)]) -> Option<PortId>
-        requires { length frames.now ≤ 8 }
-    {
+    fn sole(&mut self, rt: &impl Abort, from: u32, frames: &[(&[u8], bool)]) -> Option<PortId> {
         let batch = batch_of(rt, self.alloc, frames);
         match Lookup::new(self.alloc, &mut self.table, PortId(from), &batch) {
             Ok(lookup) => lookup.sole(),
             Err(_) => panic!(rt; "no memory"),
         }
     }
+}
+
+/// Whether so many frames go to a port.
+fn is_dest(dest: &Dest, to: u32, count: usize) -> bool {
+    dest.to == PortId(to) && dest.count as usize == count
+}
+
+/// So many ports want some, and so many frames are short and lone.
+fn count(rt: &impl Abort, lists: &Lists, counts: (usize, u32, u32)) {
+    assert!(rt; lists.len() == counts.0 && lists.short() == counts.1 && lists.lone() == counts.2);
 }
 
 /// Whether the i-th port that wants some is `to`, and wants these frames.
@@ -97,11 +103,8 @@ fn wants(
     let Ok(want) = lists.want(alloc, i) else {
         panic!(rt; "no memory");
     };
-    let to = PortId(to);
-    let dest = lists.dest(i);
-    dest.to == to
-        && dest.count as usize == places.len()
-        && want.to == to
+    is_dest(&lists.dest(i), to, places.len())
+        && want.to == PortId(to)
         && want.places.as_slice() == places
         && want.sizes.as_slice() == sizes
 }

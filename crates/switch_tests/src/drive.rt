@@ -3,7 +3,7 @@ mod rows;
 mod steps;
 
 use nm_types::{Limits, MAX_POOL, MAX_SWITCH_PORTS, Name, OpenFault, Part, SessionId, StepFault};
-use rows::{Asks, ROWS, TO_ALL};
+use rows::{Asks, ROWS, Row, TO_ALL};
 use std::alloc::Global;
 use std::process::Abort;
 use steps::{Answer, Step, answer_of, ask_of};
@@ -52,46 +52,73 @@ fn opened(rt: &impl Abort, alloc: Global, drive: &mut Drive, number: u32) -> Ans
     answer(drive, &ask)
 }
 
+/// Makes an ask, which is answered so.
+fn make(rt: &impl Abort, alloc: Global, drive: &mut Drive, step: Step, wanted: Answer) {
+    let found = answered(rt, alloc, drive, step);
+    assert!(rt; found == wanted, "{found:?}");
+}
+
 /// Makes asks, each of which is answered so.
 fn play(rt: &impl Abort, alloc: Global, drive: &mut Drive, asks: Asks) {
     for (step, answer) in asks {
-        let found = answered(rt, alloc, drive, *step);
-        assert_eq!(rt; found, *answer);
+        make(rt, alloc, drive, *step, *answer);
     }
+}
+
+/// Ends a drive, with so many entries.
+fn close(rt: &impl Abort, drive: Drive, entries: u32) {
+    let found = drive.close().len();
+    assert!(rt; found == entries, "{found}");
+}
+
+/// Plays a row.
+fn play_row(rt: &impl Abort, alloc: Global, row: &Row) {
+    let (pool, before, asks, entries) = row;
+    let mut drive = fresh(rt, alloc, *pool, Limits::VERSION_1);
+    play(rt, alloc, &mut drive, before);
+    play(rt, alloc, &mut drive, asks);
+    close(rt, drive, *entries);
 }
 
 #[test]
 fn rows_are_answered(rt: HostRuntime) {
-    for (pool, before, asks, entries) in ROWS {
-        let mut drive = fresh(&rt, rt.alloc(), *pool, Limits::VERSION_1);
-        play(&rt, rt.alloc(), &mut drive, *before);
-        play(&rt, rt.alloc(), &mut drive, *asks);
-        assert_eq!(rt; drive.close().len(), *entries);
+    for row in ROWS {
+        play_row(&rt, rt.alloc(), row);
     }
+}
+
+/// Opens so many ports of the first switch, and one more, which is refused.
+fn fill_switch(rt: &impl Abort, alloc: Global, drive: &mut Drive) {
+    for number in 0..MAX_SWITCH_PORTS as u32 {
+        assert!(rt;
+            opened(rt, alloc, drive, number) == Answer::Opened,
+            "{number}"
+        );
+    }
+    let full = Answer::Refused(OpenFault::PortsFull);
+    assert!(rt; opened(rt, alloc, drive, 999) == full);
+}
+
+/// A port is granted the frame, and its lease is done.
+fn serve(rt: &impl Abort, alloc: Global, drive: &mut Drive, port: u32, lease: u32) {
+    let grant = Step::Grant(257, port);
+    make(rt, alloc, drive, grant, Answer::Shared(1, 0, 0));
+    make(rt, alloc, drive, Step::Done(lease), Answer::Made);
 }
 
 /// A switch takes no more ports than the limits say, and a frame of three slots goes from its first
 /// one, which is 2, to all others. The first grant is entry 258.
 #[test]
 fn a_full_switch_is_served(rt: HostRuntime) {
-    let mut drive = fresh(&rt, rt.alloc(), MAX_POOL, Limits::VERSION_2);
-    let entered = answered(&rt, rt.alloc(), &mut drive, Step::Enter);
-    assert_eq!(rt; entered, Answer::Made);
-    for number in 0..MAX_SWITCH_PORTS as u32 {
-        let answer = opened(&rt, rt.alloc(), &mut drive, number);
-        assert_eq!(rt; answer, Answer::Opened);
-    }
-    let answer = opened(&rt, rt.alloc(), &mut drive, 999);
-    assert_eq!(rt; answer, Answer::Refused(OpenFault::PortsFull));
-    let sent = answered(&rt, rt.alloc(), &mut drive, TO_ALL);
-    assert_eq!(rt; sent, Answer::Offered(3, 253));
+    let alloc = rt.alloc();
+    let mut drive = fresh(&rt, alloc, MAX_POOL, Limits::VERSION_2);
+    make(&rt, alloc, &mut drive, Step::Enter, Answer::Made);
+    fill_switch(&rt, alloc, &mut drive);
+    make(&rt, alloc, &mut drive, TO_ALL, Answer::Offered(3, 253));
     for port in 3..256 {
-        let granted = answered(&rt, rt.alloc(), &mut drive, Step::Grant(257, port));
-        assert_eq!(rt; granted, Answer::Shared(1, 0, 0));
-        let done = answered(&rt, rt.alloc(), &mut drive, Step::Done(252 + 2 * port));
-        assert_eq!(rt; done, Answer::Made);
+        serve(&rt, alloc, &mut drive, port, 252 + 2 * port);
     }
-    assert_eq!(rt; drive.close().len(), 1272);
+    close(&rt, drive, 1272);
 }
 
 #[test]
@@ -109,13 +136,11 @@ fn a_run_ends_at_a_full_record(rt: HostRuntime) {
         Ask::Enter { user: 2 },
         Ask::Enter { user: 3 },
     ];
-    let made = drive.run(&asks);
     let fault = StepFault::RecordFull {
         what: Part::Entries,
         used: 4,
         want: 2,
     };
-    assert_eq!(rt; made, Err(fault));
-    let count = drive.close().len();
-    assert_eq!(rt; count, 4);
+    assert!(rt; drive.run(&asks) == Err(fault));
+    close(&rt, drive, 4);
 }

@@ -7,18 +7,28 @@ const FIRST: Mac = Mac([2, 0, 0, 0, 0, 1]);
 
 const SECOND: Mac = Mac([2, 0, 0, 1, 0, 0]);
 
+/// The port behind which an address was seen, if it is known.
+fn find(rt: &impl Abort, table: &Table, address: Mac, port: Option<PortId>) {
+    assert!(rt; table.find(address) == port);
+}
+
+fn learn(table: &mut Table, address: Mac, port: PortId) {
+    table.learn(address, port);
+}
+
 #[test]
 fn addresses_of_one_entry(rt: HostRuntime) -> Result<(), NoMemory> {
     let mut table = Table::new(rt.alloc())?;
-    assert!(rt; table.find(FIRST).is_none());
-    table.learn(FIRST, PortId(4));
-    assert!(rt; table.find(FIRST) == Some(PortId(4)));
-    assert!(rt; table.find(SECOND).is_none());
-    table.learn(SECOND, PortId(5));
-    assert!(rt; table.find(FIRST).is_none());
-    assert!(rt; table.find(SECOND) == Some(PortId(5)));
+    find(&rt, &table, FIRST, None);
+    learn(&mut table, FIRST, PortId(4));
+    find(&rt, &table, FIRST, Some(PortId(4)));
+    find(&rt, &table, SECOND, None);
+    learn(&mut table, SECOND, PortId(5));
+    find(&rt, &table, FIRST, None);
+    find(&rt, &table, SECOND, Some(PortId(5)));
     table.forget(PortId(5));
-    assert!(rt; table.find(FIRST).is_none() && table.find(SECOND).is_none());
+    find(&rt, &table, FIRST, None);
+    find(&rt, &table, SECOND, None);
     Ok(())
 }
 
@@ -27,14 +37,15 @@ fn addresses_of_one_entry(rt: HostRuntime) -> Result<(), NoMemory> {
 fn copies_are_apart(rt: HostRuntime) -> Result<(), NoMemory> {
     let other = Mac([2, 0, 0, 0, 0, 0x0b]);
     let mut table = Table::new(rt.alloc())?;
-    table.learn(FIRST, PortId(4));
-    table.learn(other, PortId(5));
+    learn(&mut table, FIRST, PortId(4));
+    learn(&mut table, other, PortId(5));
     let mut copy = Table::new(rt.alloc())?;
-    copy.learn(SECOND, PortId(6));
+    learn(&mut copy, SECOND, PortId(6));
     copy.copy_from(&table);
     copy.forget(PortId(4));
-    assert!(rt; copy.find(FIRST).is_none() && copy.find(SECOND).is_none());
-    assert!(rt; copy.find(other) == Some(PortId(5)));
-    assert!(rt; table.find(FIRST) == Some(PortId(4)));
+    find(&rt, &copy, FIRST, None);
+    find(&rt, &copy, SECOND, None);
+    find(&rt, &copy, other, Some(PortId(5)));
+    find(&rt, &table, FIRST, Some(PortId(4)));
     Ok(())
 }

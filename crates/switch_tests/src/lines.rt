@@ -59,50 +59,112 @@ fn grant(rt: &impl Abort, alloc: Global, line: &mut Line, id: u32, want: &[u32])
     }
 }
 
+/// Refuses to grant what does not fit.
+fn refuse(rt: &impl Abort, alloc: Global, line: &mut Line, id: u32, want: &[u32])
+    requires new { is_there id (leases_of line.old.lots) ≡ false }
+    requires sizes { All IsFrameSize want.now }
+    requires room { sum want.now ≤ 8 }
+    ensures { line.new ≡ line.old }
+{
+    let Ok(room) = LeaseRoom::new(alloc, 8) else {
+        panic!(rt; "no memory");
+    };
+    if let Some(_lease) = line.grant(LeaseId(id), PortId(4), room, want) {
+        panic!(rt; "what does not fit is granted");
+    }
+}
+
+/// So many buffers can be leased, so many lots are not done, and so many buffers are ready.
+fn count(rt: &impl Abort, line: &Line, space: u32, out: u32, ready: u32) {
+    assert!(rt; line.space() == space, "{space}");
+    assert!(rt; line.out() == out, "{out}");
+    assert!(rt; line.ready() == ready, "{ready}");
+}
+
+/// Whether a lease has this number, goes to port 4 and is of so many frames and slots.
+fn is_lease(lease: &Lease, id: u32, count: u32, slots: u32) -> bool {
+    lease.id() == LeaseId(id)
+        && lease.to() == PortId(4)
+        && lease.count() == count
+        && lease.slots() == slots
+}
+
+/// Whether the frames that are ready have so many slots each.
+fn are_ready(rt: &impl Abort, alloc: Global, line: &Line, slots: &[u32]) -> bool {
+    let Ok(mut sizes) = Vec::with_capacity(alloc, line.ready_frames() as usize) else {
+        panic!(rt; "no memory");
+    };
+    line.ready_sizes(&mut sizes);
+    sizes.as_slice() == slots
+}
+
+/// Reads what is ready.
+fn read(rt: &impl Abort, alloc: Global, line: &mut Line) -> Vec<Got> {
+    let Ok(room) = Vec::with_capacity(alloc, line.room_to_sync() as usize) else {
+        panic!(rt; "no memory");
+    };
+    line.sync(Vec::new(alloc), room)
+}
+
+/// The index of a buffer, the length of the part in it, and how many parts follow.
+type Part = (u32, u16, u8);
+
+const PARTS: &[Part] = &[
+    (2, 2048, 2),
+    (3, 2048, 1),
+    (4, 904, 0),
+    (5, 14, 0),
+    (6, 60, 0),
+];
+
+/// Whether the buffers have these parts.
+fn are_parts(gots: &[Got], parts: &[Part]) -> bool {
+    gots.len() == parts.len()
+        && gots.iter().zip(parts).all(|(got, (index, len, rest))| is_part(got, *index, *len, *rest))
+}
+
+/// Of a part of 904 bytes only these are written.
+fn ends_clear(rt: &impl Abort, gots: &[Got]) {
+    assert!(rt; gots.len() == 5);
+    let bytes = gots[2].buf.bytes();
+    assert!(rt; bytes[903] == 7 && bytes[904] == 0);
+}
+
+/// The parts of three frames are read.
+fn read_parts(rt: &impl Abort, alloc: Global, line: &mut Line) -> Vec<Got> {
+    assert!(rt; are_ready(rt, alloc, line, &[3, 1, 1]));
+    let gots = read(rt, alloc, line);
+    assert!(rt; are_parts(&gots, PARTS));
+    ends_clear(rt, &gots);
+    gots
+}
+
 /// A ring of 8 buffers leases 4 and then 1. The second lease is completed first, and nothing is
 /// given before the first one is done. The buffers stay out: the test ends by the panic that it
 /// expects.
 #[test]
 #[should_panic(expected = "the buffers stay out")]
 fn frames_in_lease_order(rt: HostRuntime) {
-    let Ok((_region, bufs)) = Region::new(rt.alloc(), 8) else {
+    let alloc = rt.alloc();
+    let Ok((_region, bufs)) = Region::new(alloc, 8) else {
         panic!(rt; "no memory");
     };
-    let mut line = line_of(&rt, rt.alloc(), bufs);
-    let mut first = grant(&rt, rt.alloc(), &mut line, 7, &[3, 1]);
-    let mut second = grant(&rt, rt.alloc(), &mut line, 9, &[1]);
-    assert!(rt; line.space() == 2 && line.out() == 2 && first.slots() == 4);
-    let Ok(room) = LeaseRoom::new(rt.alloc(), 4) else {
-        panic!(rt; "no memory");
-    };
-    if let Some(_lease) = line.grant(LeaseId(10), PortId(4), room, &[3, 1]) {
-        panic!(rt; "three slots fit in two");
-    }
-    let last = grant(&rt, rt.alloc(), &mut line, 11, &[1, 1, 1]);
-    assert!(rt; last.id() == LeaseId(11) && last.to() == PortId(4) && last.count() == 2);
+    let mut line = line_of(&rt, alloc, bufs);
+    let mut first = grant(&rt, alloc, &mut line, 7, &[3, 1]);
+    let mut second = grant(&rt, alloc, &mut line, 9, &[1]);
+    assert!(rt; is_lease(&first, 7, 2, 4));
+    count(&rt, &line, 2, 2, 0);
+    refuse(&rt, alloc, &mut line, 10, &[3, 1]);
+    let last = grant(&rt, alloc, &mut line, 11, &[1, 1, 1]);
+    assert!(rt; is_lease(&last, 11, 2, 2));
     assert!(rt; second.try_fill(&[9; 60]));
     complete(&rt, &mut line, second);
-    assert!(rt; line.ready() == 0 && line.out() == 2 && line.space() == 0);
+    count(&rt, &line, 0, 2, 0);
     assert!(rt; first.try_fill(&LONG));
     assert!(rt; first.try_fill(&[1; 14]));
     complete(&rt, &mut line, first);
-    assert!(rt; line.ready() == 5 && line.out() == 1);
-    let Ok(mut sizes) = Vec::with_capacity(rt.alloc(), line.ready_frames() as usize) else {
-        panic!(rt; "no memory");
-    };
-    line.ready_sizes(&mut sizes);
-    assert!(rt; sizes.as_slice() == [3, 1, 1].as_slice());
-    let Ok(room) = Vec::with_capacity(rt.alloc(), line.room_to_sync() as usize) else {
-        panic!(rt; "no memory");
-    };
-    let got = line.sync(Vec::new(rt.alloc()), room);
-    assert!(rt; got.len() == 5);
-    let parts = [(2048, 2), (2048, 1), (904, 0), (14, 0), (60, 0)];
-    for at in 0..parts.len() {
-        let (len, rest) = parts[at];
-        assert!(rt; is_part(&got[at], at as u32 + 2, len, rest), "buffer {at}");
-    }
-    assert!(rt; got[2].buf.bytes()[903] == 7 && got[2].buf.bytes()[904] == 0);
+    count(&rt, &line, 0, 1, 5);
+    let _gots = read_parts(&rt, alloc, &mut line);
     panic!(rt; "the buffers stay out");
 }
 

@@ -1,11 +1,13 @@
-use nm_types::{BadName, MAX_EXTRA, MAX_RING, Name, OpenFault, PortId};
+use nm_types::{MAX_EXTRA, MAX_RING, Name, NoMemory, OpenFault, PortId};
 use std::alloc::Global;
 use std::process::Abort;
-use std::test::Fail;
 use vale_names::Names;
 
-/// Openings in order, each with the sizes of both rings, the extra buffers and the answer.
-const OPENINGS: [(&str, u32, u32, u32, Option<OpenFault>); 19] = [
+/// An opening: the name, the sizes of both rings, the extra buffers and the answer.
+type Opening = (&'static str, u32, u32, u32, Option<OpenFault>);
+
+/// Openings in order.
+const OPENINGS: [Opening; 19] = [
     ("vale0:a", 4, 4, 0, None),
     ("vale0:b", MAX_RING, MAX_RING, MAX_EXTRA, None),
     ("vale0:c", 1, 2, 0, Some(OpenFault::BadSize)),
@@ -75,105 +77,122 @@ const SHUT_AND_GONE: [Step; 15] = [
 /// What precedes and follows a letter in the names of pipe ends and monitors.
 const KINDS: [(&str, &str); 4] = [("pipe", "{"), ("pipe", "}"), ("mon", "0"), ("mon", "1")];
 
-/// Opens a port with rings of 2 slots (a monitor without a transmit ring), and returns the refusal.
-fn opened(names: &mut Names, text: &str, id: u32) -> Result<Option<OpenFault>, BadName> {
-    let name = Name::parse(text)?;
-    let tx = if name.is_monitor() { 0 } else { 2 };
-    Ok(names.open(&name, PortId(id), tx, 2, 0).err())
+/// The name that a text is.
+fn name(rt: &impl Abort, text: &str) -> Name {
+    match Name::parse(text) {
+        Ok(name) => name,
+        Err(_) => panic!(rt; "{text} is no name"),
+    }
 }
 
-/// Finds the open port of this name.
-fn found(names: &Names, text: &str) -> Result<Option<PortId>, BadName> {
-    Ok(names.find(&Name::parse(text)?))
+/// Opens a port with rings of 2 slots (a monitor without a transmit ring), and returns the refusal.
+fn opened(rt: &impl Abort, names: &mut Names, text: &str, id: u32) -> Option<OpenFault> {
+    let name = name(rt, text);
+    let tx = if name.is_monitor() { 0 } else { 2 };
+    names.open(&name, PortId(id), tx, 2, 0).err()
 }
 
 /// Tells whether a step is answered as it says.
-fn is_answered(names: &mut Names, step: &Step) -> Result<bool, BadName> {
+fn is_answered(rt: &impl Abort, names: &mut Names, step: &Step) -> bool {
     match step {
-        Step::Opens(text, id, answer) => Ok(opened(names, text, *id)? == *answer),
-        Step::Finds(text, answer) => Ok(found(names, text)? == *answer),
+        Step::Opens(text, id, answer) => opened(rt, names, text, *id) == *answer,
+        Step::Finds(text, answer) => names.find(&name(rt, text)) == *answer,
         Step::Shuts(id) => {
             names.shut(PortId(*id));
-            Ok(true)
+            true
         }
         Step::Goes(id) => {
             names.gone(PortId(*id));
-            Ok(true)
+            true
         }
     }
 }
 
-/// The first step that is not answered as it says.
-fn first_astray(alloc: Global, steps: &[Step]) -> Result<Option<usize>, Fail> {
+/// Takes steps over no names, each of which is answered as it says.
+fn walk(rt: &impl Abort, alloc: Global, steps: &[Step]) -> Result<(), NoMemory> {
     let mut names = Names::new(alloc)?;
-    for (i, step) in steps.iter().enumerate() {
-        if !is_answered(&mut names, step)? {
-            return Ok(Some(i));
-        }
+    for (at, step) in steps.iter().enumerate() {
+        assert!(rt; is_answered(rt, &mut names, step), "step {at}");
     }
-    Ok(None)
+    Ok(())
 }
 
-/// Tells whether the opening of each of the four names with this letter has this answer.
-fn all_answered(
+/// The opening of a name has this answer.
+fn open(rt: &impl Abort, names: &mut Names, text: &str, id: u32, answer: Option<OpenFault>) {
+    assert!(rt; opened(rt, names, text, id) == answer, "{text}");
+}
+
+/// The opening of each of the four names with this letter has this answer.
+fn open_each(
+    rt: &impl Abort,
     alloc: Global,
     names: &mut Names,
     letter: char,
     answer: Option<OpenFault>,
-) -> Result<bool, Fail> {
+) {
     for (front, back) in KINDS {
-        let text = format!(in alloc; "{front}{letter}{back}")?;
-        if opened(names, &text, letter as u32)? != answer {
-            return Ok(false);
+        match format!(in alloc; "{front}{letter}{back}") {
+            Ok(text) => open(rt, names, &text, letter as u32, answer),
+            Err(_) => panic!(rt; "no memory"),
         }
     }
-    Ok(true)
+}
+
+/// Tells whether an opening under a number is answered as it says.
+fn opens(rt: &impl Abort, names: &mut Names, id: u32, opening: &Opening) -> bool {
+    let (text, tx, rx, extra, answer) = opening;
+    names
+        .open(&name(rt, text), PortId(id), *tx, *rx, *extra)
+        .err()
+        == *answer
 }
 
 #[test]
-fn openings_and_refusals(rt: HostRuntime) -> Result<(), Fail> {
+fn openings_and_refusals(rt: HostRuntime) -> Result<(), NoMemory> {
     let mut names = Names::new(rt.alloc())?;
-    for (i, (text, tx, rx, extra, wanted)) in OPENINGS.into_iter().enumerate() {
-        let name = Name::parse(text)?;
-        let answer = names.open(&name, PortId(i as u32), tx, rx, extra).err();
-        assert!(rt; answer == wanted, "{text} {tx} {rx} {extra}");
+    for (i, opening) in OPENINGS.iter().enumerate() {
+        assert!(rt; opens(&rt, &mut names, i as u32, opening), "opening {i}");
     }
     Ok(())
 }
 
 #[test]
-fn switches_live_with_their_ports(rt: HostRuntime) -> Result<(), Fail> {
-    assert_eq!(rt; first_astray(rt.alloc(), &FIFTH_SWITCH)?, None);
-    assert_eq!(rt; first_astray(rt.alloc(), &SHUT_AND_GONE)?, None);
-    Ok(())
+fn switches_live_with_their_ports(rt: HostRuntime) -> Result<(), NoMemory> {
+    walk(&rt, rt.alloc(), &FIFTH_SWITCH)?;
+    walk(&rt, rt.alloc(), &SHUT_AND_GONE)
+}
+
+/// Opens the ports of one switch with the numbers below 254.
+fn open_many(rt: &impl Abort, alloc: Global, names: &mut Names) {
+    for id in 0..254 {
+        match format!(in alloc; "vale0:{id}") {
+            Ok(text) => open(rt, names, &text, id, None),
+            Err(_) => panic!(rt; "no memory"),
+        }
+    }
 }
 
 /// With 254 ports of one switch, one more is refused with `PortsFull`, even if its name is taken.
 #[test]
-fn one_switch_port_too_many(rt: HostRuntime) -> Result<(), Fail> {
-    let alloc = rt.alloc();
-    let mut names = Names::new(alloc)?;
-    for id in 0..254 {
-        let text = format!(in alloc; "vale0:{id}")?;
-        assert!(rt; opened(&mut names, &text, id)?.is_none());
-    }
-    let full = Some(OpenFault::PortsFull);
-    assert!(rt; opened(&mut names, "vale0:0", 254)? == full);
-    assert!(rt; opened(&mut names, "vale0:z", 254)? == full);
-    assert!(rt; opened(&mut names, "vale1:0", 254)?.is_none());
+fn one_switch_port_too_many(rt: HostRuntime) -> Result<(), NoMemory> {
+    let mut names = Names::new(rt.alloc())?;
+    open_many(&rt, rt.alloc(), &mut names);
+    open(&rt, &mut names, "vale0:0", 254, Some(OpenFault::PortsFull));
+    open(&rt, &mut names, "vale0:z", 254, Some(OpenFault::PortsFull));
+    open(&rt, &mut names, "vale1:0", 254, None);
     Ok(())
 }
 
 /// With 32 pipe ends and 32 monitors, one more of each is refused with `PortsFull`, even if its
 /// name is taken.
 #[test]
-fn one_end_or_monitor_too_many(rt: HostRuntime) -> Result<(), Fail> {
+fn one_end_or_monitor_too_many(rt: HostRuntime) -> Result<(), NoMemory> {
+    let full = Some(OpenFault::PortsFull);
     let mut names = Names::new(rt.alloc())?;
     for letter in 'a'..='p' {
-        assert!(rt; all_answered(rt.alloc(), &mut names, letter, None)?);
+        open_each(&rt, rt.alloc(), &mut names, letter, None);
     }
-    let full = Some(OpenFault::PortsFull);
-    assert!(rt; all_answered(rt.alloc(), &mut names, 'a', full)?);
-    assert!(rt; all_answered(rt.alloc(), &mut names, 'z', full)?);
+    open_each(&rt, rt.alloc(), &mut names, 'a', full);
+    open_each(&rt, rt.alloc(), &mut names, 'z', full);
     Ok(())
 }

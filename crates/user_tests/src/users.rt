@@ -3,9 +3,9 @@ ghost use Rattle.std.specs.Prelude.{◌≡◌};
 ghost use Rattle.nm_user.specs.Words.{IsPassIn};
 
 use lines::play;
-use nm_io::NoGate;
+use nm_io::{Gate, NoGate};
 use nm_types::{Name, PortId, Side, Sides, Slot, SlotFlags, SyncFault};
-use nm_user::Session;
+use nm_user::{Received, Sent, Session};
 use std::process::Abort;
 use std::sync::Wait;
 use std::test::Fail;
@@ -27,6 +27,9 @@ const OUT: SyncFault = SyncFault::HeadOut {
     from: 1,
     to: 1,
 };
+
+/// What refuses a slot that names a buffer of another user's.
+const FOREIGN: SyncFault = SyncFault::NotHeld { slot: 0, idx: 3 };
 
 /// The first transmit slot of the port that was opened second, as a reset leaves it.
 const RESET: Slot = Slot {
@@ -64,15 +67,20 @@ struct User<'f> {
     port: PortId,
 }
 
+/// The name that a text is.
+fn name_of(rt: &impl Abort, text: &str) -> Name {
+    match Name::parse(text) {
+        Ok(name) => name,
+        Err(_) => panic!(rt; "{text}"),
+    }
+}
+
 /// A port of this name is opened.
 fn open<R: Abort + Wait>(rt: &R, session: &mut Session, name: &str, sizes: Sizes) -> PortId
     ensures fabric { session.new.fabric ≡ session.old.fabric }
 {
-    let opened = match Name::parse(name) {
-        Ok(name) => session.open(rt, &name, sizes.tx, sizes.rx, sizes.extra),
-        Err(_) => panic!(rt; "{name}"),
-    };
-    match opened {
+    let name = name_of(rt, name);
+    match session.open(rt, &name, sizes.tx, sizes.rx, sizes.extra) {
         Ok(port) => port,
         Err(fault) => panic!(rt; "{fault:?}"),
     }
@@ -147,15 +155,42 @@ fn user_slots(session: &Session, port: PortId, side: Side) -> Option<(u32, u32)>
     }
 }
 
+/// What is pushed at a port goes on, past a gate.
+fn push<R: Abort + Wait, G: Gate>(rt: &R, session: &mut Session, port: PortId, gate: &G) -> Sent
+    ensures { session.new.fabric ≡ session.old.fabric }
+{
+    assert!(rt; session.ring(port, Side::Tx).is_some());
+    match session.tx_sync(rt, port, gate) {
+        Ok(sent) => sent,
+        Err(fault) => panic!(rt; "{fault:?}"),
+    }
+}
+
+/// What is ready at a port comes.
+fn pull<R: Abort + Wait>(rt: &R, session: &mut Session, port: PortId) -> Received
+    ensures { session.new.fabric ≡ session.old.fabric }
+{
+    assert!(rt; session.has_port(port));
+    match session.rx_sync(rt, port, &NoGate) {
+        Ok(received) => received,
+        Err(fault) => panic!(rt; "{fault:?}"),
+    }
+}
+
 /// A frame that was put goes on, and so many ports are granted it.
 fn send<R: Abort + Wait>(rt: &R, session: &mut Session, port: PortId, given: u32)
     ensures { session.new.fabric ≡ session.old.fabric }
 {
-    assert!(rt; session.ring(port, Side::Tx).is_some());
-    match session.tx_sync(rt, port, &NoGate) {
-        Ok(sent) => assert_eq!(rt; (sent.pushed, sent.given), (1, given)),
-        Err(fault) => panic!(rt; "{fault:?}"),
-    }
+    let sent = push(rt, session, port, &NoGate);
+    assert!(rt; sent.pushed == 1 && sent.given == given);
+}
+
+/// So many frames come, and so many buffers go back.
+fn sync<R: Abort + Wait>(rt: &R, session: &mut Session, port: PortId, gave: u32, returned: u32)
+    ensures { session.new.fabric ≡ session.old.fabric }
+{
+    let received = pull(rt, session, port);
+    assert!(rt; received.gave == gave && received.returned == returned);
 }
 
 /// The first slot of a transmit ring, and the bytes of its buffer, are written as a frame.
@@ -178,11 +213,7 @@ fn write_frame<R: Abort>(rt: &R, session: &mut Session, port: PortId)
 fn receive<R: Abort + Wait>(rt: &R, session: &mut Session, port: PortId)
     ensures { session.new.fabric ≡ session.old.fabric }
 {
-    assert!(rt; session.has_port(port));
-    match session.rx_sync(rt, port, &NoGate) {
-        Ok(received) => assert_eq!(rt; (received.gave, received.returned), (1, 0)),
-        Err(fault) => panic!(rt; "{fault:?}"),
-    }
+    sync(rt, session, port, 1, 0);
     assert!(rt; is_broadcast(session, port));
 }
 
@@ -202,11 +233,7 @@ fn give_back<R: Abort + Wait>(rt: &R, session: &mut Session, port: PortId)
     ensures { session.new.fabric ≡ session.old.fabric }
 {
     session.give_all_back(port);
-    assert!(rt; session.has_port(port));
-    match session.rx_sync(rt, port, &NoGate) {
-        Ok(received) => assert_eq!(rt; (received.gave, received.returned), (0, 1)),
-        Err(fault) => panic!(rt; "{fault:?}"),
-    }
+    sync(rt, session, port, 0, 1);
 }
 
 /// A head beyond the user's slots is refused, and the ring reset.
@@ -217,9 +244,17 @@ fn go_too_far<R: Abort + Wait>(rt: &R, session: &mut Session, port: PortId)
     assert!(rt; session.has_port(port));
     match session.rx_sync(rt, port, &NoGate) {
         Ok(received) => panic!(rt; "{received:?}"),
-        Err(fault) => assert_eq!(rt; fault, OUT),
+        Err(fault) => assert!(rt; fault == OUT, "{fault:?}"),
     }
-    assert_eq!(rt; user_slots(session, port, Side::Rx), Some((1, 0)));
+    assert!(rt; user_slots(session, port, Side::Rx) == Some((1, 0)));
+}
+
+/// Whether the transmit ring is as a reset leaves it.
+fn is_reset(session: &Session, port: PortId) -> bool {
+    match session.slot(port, Side::Tx, 0) {
+        Some(slot) => *slot == RESET && user_slots(session, port, Side::Tx) == Some((0, 3)),
+        None => false,
+    }
 }
 
 /// A slot that names another user's buffer, the second one of the port that was opened first, is
@@ -232,10 +267,9 @@ fn name_foreign<R: Abort + Wait>(rt: &R, session: &mut Session, port: PortId)
     assert!(rt; session.ring(port, Side::Tx).is_some());
     match session.tx_sync(rt, port, &NoGate) {
         Ok(sent) => panic!(rt; "{sent:?}"),
-        Err(fault) => assert_eq!(rt; fault, SyncFault::NotHeld { slot: 0, idx: 3 }),
+        Err(fault) => assert!(rt; fault == FOREIGN, "{fault:?}"),
     }
-    assert_eq!(rt; user_slots(session, port, Side::Tx), Some((0, 3)));
-    assert_eq!(rt; session.slot(port, Side::Tx, 0).copied(), Some(RESET));
+    assert!(rt; is_reset(session, port));
 }
 
 /// A monitor watches these sides of a port of a switch.
@@ -243,15 +277,30 @@ fn watch<R: Abort + Wait>(rt: &R, session: &mut Session, monitor: PortId, target
     ensures { session.new.fabric ≡ session.old.fabric }
 {
     let (target, sides) = target;
-    let name = match Name::parse(target) {
-        Ok(name) => name,
-        Err(_) => panic!(rt; "{target}"),
-    };
+    let name = name_of(rt, target);
     assert!(rt; session.is_monitor(monitor) && name.is_switch_port());
     match session.watch(rt, monitor, &name, sides) {
         Ok(_) => {}
         Err(fault) => panic!(rt; "{fault:?}"),
     }
+}
+
+/// A new port has three transmit slots for its user, and nothing to read.
+fn is_new(rt: &impl Abort, user: &User) {
+    assert!(rt; user_slots(&user.session, user.port, Side::Tx) == Some((0, 3)));
+    assert!(rt; user_slots(&user.session, user.port, Side::Rx) == Some((0, 0)));
+}
+
+/// One user sends a frame to another, who reads it and gives its buffer back.
+fn send_to<R: Abort + Wait>(rt: &R, sender: &mut User, receiver: &mut User)
+    ensures sender { sender.new.session.fabric ≡ sender.old.session.fabric }
+    ensures receiver { receiver.new.session.fabric ≡ receiver.old.session.fabric }
+{
+    sender.session.put_frame(sender.port, &FRAME);
+    send(rt, &mut sender.session, sender.port, 1);
+    receive(rt, &mut receiver.session, receiver.port);
+    give_back(rt, &mut receiver.session, receiver.port);
+    go_too_far(rt, &mut receiver.session, receiver.port);
 }
 
 /// One user sends a frame to another, and both leave.
@@ -262,16 +311,40 @@ fn send_and_leave<R: AllocGlobal + Abort + Wait>(rt: &R, fabric: &Fabric, pass: 
     let two = fabric.fork(&mut pass);
     let mut sender = come(rt, fabric, pass, 1, "vale0:a", FOUR);
     let mut receiver = come(rt, fabric, two, 2, "vale0:b", FOUR);
-    let (from, to) = (sender.port, receiver.port);
-    assert_eq!(rt; user_slots(&sender.session, from, Side::Tx), Some((0, 3)));
-    assert_eq!(rt; user_slots(&sender.session, from, Side::Rx), Some((0, 0)));
-    sender.session.put_frame(from, &FRAME);
-    send(rt, &mut sender.session, from, 1);
-    receive(rt, &mut receiver.session, to);
-    give_back(rt, &mut receiver.session, to);
-    go_too_far(rt, &mut receiver.session, to);
+    is_new(rt, &sender);
+    send_to(rt, &mut sender, &mut receiver);
     let mut left = leave(rt, sender);
     fabric.join(&mut left, leave(rt, receiver));
+}
+
+/// A frame goes through a pipe.
+fn go_through<R: Abort + Wait>(rt: &R, master: &mut User, slave: &mut User)
+    ensures master { master.new.session.fabric ≡ master.old.session.fabric }
+    ensures slave { slave.new.session.fabric ≡ slave.old.session.fabric }
+{
+    write_frame(rt, &mut master.session, master.port);
+    send(rt, &mut master.session, master.port, 0);
+    receive(rt, &mut slave.session, slave.port);
+}
+
+/// Two users open a port of a switch each, and a frame goes from one to the other and to a monitor.
+fn go_to_both<R: Abort + Wait>(rt: &R, one: &mut User, other: &mut User, watcher: &mut User)
+    ensures one { one.new.session.fabric ≡ one.old.session.fabric }
+    ensures other { other.new.session.fabric ≡ other.old.session.fabric }
+    ensures watcher { watcher.new.session.fabric ≡ watcher.old.session.fabric }
+{
+    let sender = open(rt, &mut one.session, "vale0:a", FOUR);
+    let receiver = open(rt, &mut other.session, "vale0:b", FOUR);
+    watch(
+        rt,
+        &mut watcher.session,
+        watcher.port,
+        ("vale0:a", Sides::T),
+    );
+    one.session.put_frame(sender, &FRAME);
+    send(rt, &mut one.session, sender, 2);
+    receive(rt, &mut other.session, receiver);
+    receive(rt, &mut watcher.session, watcher.port);
 }
 
 /// A frame goes through a pipe, and one to a port of a switch and to a monitor; a slot that names
@@ -281,17 +354,9 @@ fn pipe_and_watch<R: AllocGlobal + Abort + Wait>(rt: &R, fabric: &Fabric, pass: 
 {
     let ports = [("pipe0{", FOUR), ("pipe0}", FOUR), ("mon0", MONITOR)];
     let (mut master, mut slave, mut watcher) = three_come(rt, fabric, pass, ports);
-    let (from, to, monitor) = (master.port, slave.port, watcher.port);
-    write_frame(rt, &mut master.session, from);
-    send(rt, &mut master.session, from, 0);
-    receive(rt, &mut slave.session, to);
-    let sender = open(rt, &mut master.session, "vale0:a", FOUR);
-    let receiver = open(rt, &mut slave.session, "vale0:b", FOUR);
-    watch(rt, &mut watcher.session, monitor, ("vale0:a", Sides::T));
-    master.session.put_frame(sender, &FRAME);
-    send(rt, &mut master.session, sender, 2);
-    receive(rt, &mut slave.session, receiver);
-    receive(rt, &mut watcher.session, monitor);
+    let to = slave.port;
+    go_through(rt, &mut master, &mut slave);
+    go_to_both(rt, &mut master, &mut slave, &mut watcher);
     name_foreign(rt, &mut slave.session, to);
     let mut left = leave(rt, master);
     fabric.join(&mut left, leave(rt, slave));

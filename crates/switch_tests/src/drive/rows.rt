@@ -9,7 +9,9 @@ pub(super) type Asks = &'static [(Step, Answer)];
 
 /// The size of a pool, what a fresh drive is asked first, the asks that the row is about, and how
 /// many entries there are once the drive is closed.
-pub(super) const ROWS: &[(u32, Asks, Asks, u32)] = &[
+pub(super) type Row = (u32, Asks, Asks, u32);
+
+pub(super) const ROWS: &[Row] = &[
     (64, THREE, LEASES, 27),
     (64, THREE, GONE, 22),
     (64, THREE, OUT, 20),

@@ -2,7 +2,7 @@
 ghost use Rattle.nm_user.specs.Words.{IsPassIn};
 
 use super::lines::play;
-use super::{Sizes, User, come, naming};
+use super::{Sizes, User, come, naming, push};
 use nm_io::NoGate;
 use nm_types::{PortId, Side};
 use nm_user::{Detached, Session};
@@ -23,11 +23,8 @@ const EXTRAS: Sizes = Sizes {
 fn exchange<R: Abort + Wait>(rt: &R, session: &mut Session, port: PortId) {
     session.put_slot(port, Side::Tx, 0, naming(6, 0));
     session.put_positions(port, Side::Tx, 1, 1);
-    assert!(rt; session.ring(port, Side::Tx).is_some());
-    match session.tx_sync(rt, port, &NoGate) {
-        Ok(sent) => assert_eq!(rt; (sent.pushed, sent.short), (1, 1)),
-        Err(fault) => panic!(rt; "{fault:?}"),
-    }
+    let sent = push(rt, session, port, &NoGate);
+    assert!(rt; sent.pushed == 1 && sent.short == 1);
 }
 
 /// Makes a change of the chain.
@@ -44,14 +41,17 @@ fn make<R: Abort + Wait>(rt: &R, session: &mut Session, port: PortId, change: Ch
     }
 }
 
-/// The extra buffers of a new port, and one position more.
-fn extras(session: &Session, port: PortId) -> [Option<u32>; 4] {
-    [
-        session.extra_at(port, 0),
-        session.extra_at(port, 1),
-        session.extra_at(port, 2),
-        session.extra_at(port, 3),
-    ]
+/// Three extra buffers of a new port, one behind the other, and no position more.
+fn has_extras(rt: &impl Abort, session: &Session, port: PortId) {
+    assert!(rt; session.extra_head(port) == Some(6) && session.extra_at(port, 0) == Some(6));
+    assert!(rt; session.extra_at(port, 1) == Some(7) && session.extra_at(port, 2) == Some(8));
+    assert!(rt; session.extra_at(port, 3).is_none());
+}
+
+/// Closes a port.
+fn close<R: Abort + Wait>(rt: &R, session: &mut Session, port: PortId) -> Detached {
+    assert!(rt; session.has_port(port));
+    session.detach(rt, port)
 }
 
 /// A user opens a port, changes its chain of extra buffers, closes it and leaves.
@@ -64,12 +64,10 @@ fn close_with<R: AllocGlobal + Abort + Wait>(
     requires { IsPassIn fabric.now pass }
 {
     let User { mut session, port } = come(rt, fabric, pass, 1, "vale0:a", EXTRAS);
-    assert_eq!(rt; session.extra_head(port), Some(6));
-    assert_eq!(rt; extras(&session, port), [Some(6), Some(7), Some(8), None]);
+    has_extras(rt, &session, port);
     make(rt, &mut session, port, case.change);
-    assert_eq!(rt; session.extra_at(port, 0), Some(case.first));
-    assert!(rt; session.has_port(port));
-    let detached = session.detach(rt, port);
+    assert!(rt; session.extra_at(port, 0) == Some(case.first));
+    let detached = close(rt, &mut session, port);
     drop(session.leave(rt));
     detached
 }

@@ -3,9 +3,8 @@
 ghost use Rattle.nm_user.specs.Words.{IsPassIn};
 
 use super::lines::{Line, NONE, are_lines, play};
-use super::{FOUR, FRAME, User, leave, open, three_come};
+use super::{FOUR, FRAME, User, leave, open, pull, push, three_come};
 use nm_io::{Gate, NoGate, Stage};
-use nm_types::Side;
 use nm_user::{Received, Sent};
 use std::process::Abort;
 use std::sync::{Mutex, Wait};
@@ -54,14 +53,14 @@ impl<'f> Others<'f> {
 
     fn send_and_read<R: Abort + Wait>(&mut self, rt: &R) {
         let sent = send(rt, &mut self.second, &OTHER, &NoGate);
-        assert_eq!(rt; (sent.given, sent.full, sent.gone), (2, 0, 0));
-        assert_eq!(rt; read(rt, &mut self.third).gave, 0);
+        assert!(rt; sent.given == 2 && sent.full == 0 && sent.gone == 0);
+        assert!(rt; read(rt, &mut self.third).gave == 0);
     }
 
     fn open_again<R: Abort + Wait>(&mut self, rt: &R) {
         let User { session, port } = &mut self.third;
         assert!(rt; session.has_port(*port));
-        assert_eq!(rt; session.detach(rt, *port).unread, 0);
+        assert!(rt; session.detach(rt, *port).unread == 0);
         *port = open(rt, session, "vale0:c", FOUR);
     }
 }
@@ -85,23 +84,14 @@ pub(super) fn send<R: Abort + Wait, G: Gate>(
 
 /// Sends the one frame that was put at a user's port.
 fn send_pushed<R: Abort + Wait, G: Gate>(rt: &R, user: &mut User, gate: &G) -> Sent {
-    assert!(rt; user.session.ring(user.port, Side::Tx).is_some());
-    match user.session.tx_sync(rt, user.port, gate) {
-        Ok(sent) => {
-            assert_eq!(rt; (sent.pushed, sent.short, sent.lone), (1, 0, 0));
-            sent
-        }
-        Err(fault) => panic!(rt; "{fault:?}"),
-    }
+    let sent = push(rt, &mut user.session, user.port, gate);
+    assert!(rt; sent.pushed == 1 && sent.short == 0 && sent.lone == 0);
+    sent
 }
 
 /// Reads what is ready at a user's port.
 fn read<R: Abort + Wait>(rt: &R, user: &mut User) -> Received {
-    assert!(rt; user.session.has_port(user.port));
-    match user.session.rx_sync(rt, user.port, &NoGate) {
-        Ok(received) => received,
-        Err(fault) => panic!(rt; "{fault:?}"),
-    }
+    pull(rt, &mut user.session, user.port)
 }
 
 /// What the others do and at which stage; of the first one's frame how many ports were given it, were
@@ -191,7 +181,7 @@ fn hold_first<R: AllocGlobal + Abort + Wait + Sync>(
 fn others_go_on_while_one_is_held(rt: HostRuntime) -> Result<(), Fail> {
     for (deed, at, told, lines) in HELD {
         let (held, history) = play(&rt, |fabric, pass| hold_first(&rt, fabric, pass, deed, at))?;
-        assert_eq!(rt; held, told);
+        assert!(rt; held == told);
         are_lines(&rt, &history, lines);
     }
     Ok(())

@@ -20,7 +20,7 @@ pub(super) const NONE: Chain = Chain {
 };
 
 /// What an entry asked and was answered, as far as a test looks at it.
-#[derive(Clone, Copy, Debug, PartialEq, Eq)]
+#[derive(Clone, Copy, PartialEq, Eq)]
 pub(super) enum Line {
     /// A send: the port, and how many frames were short and lone.
     Send(u32, u32, u32),
@@ -62,11 +62,11 @@ pub(super) fn are_lines(rt: &impl Abort, history: &History, wanted: &[(u32, Line
     for entry in history.entries() {
         let line = line_of(entry);
         if line != Line::Other && at < wanted.len() {
-            assert_eq!(rt; (entry.session.0, line), wanted[at]);
+            assert!(rt; (entry.session.0, line) == wanted[at], "line {at}");
             at += 1;
         }
     }
-    assert_eq!(rt; at, wanted.len());
+    assert!(rt; at == wanted.len(), "{at} lines");
 }
 
 /// Users live on a fabric of 256 buffers. Answers what their life told, and what was recorded once all

@@ -2,7 +2,7 @@
 ghost use Rattle.nm_user.specs.Words.{IsPassIn};
 
 use super::lines::play;
-use super::{Sizes, User, leave, three_come, watch};
+use super::{Sizes, User, leave, pull, push, three_come, watch};
 use nm_io::NoGate;
 use nm_types::{MAX_FRAME_BYTES, PortId, Side, Sides};
 use nm_user::{Sent, Session};
@@ -119,30 +119,33 @@ fn send<R: AllocGlobal + Abort + Wait>(rt: &R, user: &mut User, lens: &[usize]) 
     for len in lens {
         put(rt, &mut user.session, user.port, *len);
     }
-    assert!(rt; user.session.ring(user.port, Side::Tx).is_some());
-    match user.session.tx_sync(rt, user.port, &NoGate) {
-        Ok(sent) => sent,
-        Err(fault) => panic!(rt; "{fault:?}"),
+    push(rt, &mut user.session, user.port, &NoGate)
+}
+
+/// Whether a frame of so many bytes has these.
+fn is_frame(rt: &impl Abort, alloc: Global, found: &[u8], len: usize) -> bool {
+    match frame(alloc, len) {
+        Ok(bytes) => found == bytes.as_slice(),
+        Err(_) => panic!(rt; "out of memory"),
     }
 }
 
-/// These frames come, and are read by one call.
-fn receive<R: AllocGlobal + Abort + Wait>(rt: &R, user: &mut User, lens: &[usize]) {
-    assert!(rt; user.session.has_port(user.port));
-    match user.session.rx_sync(rt, user.port, &NoGate) {
-        Ok(received) => assert_eq!(rt; received.gave as usize, lens.len()),
-        Err(fault) => panic!(rt; "{fault:?}"),
-    }
+/// Frames of these lengths are read by one call.
+fn read_all(rt: &impl Abort, alloc: Global, user: &User, lens: &[usize]) {
     let Ok(frames) = user.session.frames_from(user.port, 0) else {
         panic!(rt; "out of memory")
     };
     assert!(rt; frames.len() == lens.len());
     for i in 0..lens.len() {
-        match frame(rt.alloc(), lens[i]) {
-            Ok(bytes) => assert!(rt; frames.frame(i) == bytes.as_slice()),
-            Err(_) => panic!(rt; "out of memory"),
-        }
+        assert!(rt; is_frame(rt, alloc, frames.frame(i), lens[i]), "frame {i}");
     }
+}
+
+/// Frames of these lengths come.
+fn receive<R: AllocGlobal + Abort + Wait>(rt: &R, user: &mut User, lens: &[usize]) {
+    let received = pull(rt, &mut user.session, user.port);
+    assert!(rt; received.gave as usize == lens.len());
+    read_all(rt, rt.alloc(), user, lens);
 }
 
 /// A port's receive slot has this length and these flags.
@@ -150,6 +153,13 @@ fn is_slot(session: &Session, port: PortId, at: u32, slot: (u16, u16)) -> bool {
     match session.slot(port, Side::Rx, at) {
         Some(found) => (found.len, found.flags) == slot,
         None => false,
+    }
+}
+
+/// The port's first receive slots are as the row tells.
+fn are_slots(rt: &impl Abort, user: &User, slots: &[(u16, u16)]) {
+    for (at, slot) in (0u32..).zip(slots) {
+        assert!(rt; is_slot(&user.session, user.port, at, *slot), "slot {at}");
     }
 }
 
@@ -174,6 +184,11 @@ fn watched<'f, R: AllocGlobal + Abort + Wait>(
     (first, second, third)
 }
 
+/// The first ones of some lengths.
+fn first(lens: &[usize], count: usize) -> &[usize] {
+    &lens[..lens.len().min(count)]
+}
+
 /// The frames are sent, received and watched.
 fn send_and_watch<R: AllocGlobal + Abort + Wait>(
     rt: &R,
@@ -184,25 +199,19 @@ fn send_and_watch<R: AllocGlobal + Abort + Wait>(
 ) -> Sent
     requires { IsPassIn fabric.now pass }
 {
-    let (mut first, mut second, mut third) = watched(rt, fabric, pass, row, target);
-    let sent = send(rt, &mut first, row.lens);
-    receive(rt, &mut second, &row.lens[..row.lens.len().min(row.given)]);
-    receive(rt, &mut third, &row.lens[..row.lens.len().min(row.watched)]);
-    for (at, slot) in row.slots.iter().enumerate() {
-        let at = u32::try_from(at).unwrap_or(u32::MAX);
-        assert!(rt;
-            is_slot(&second.session, second.port, at, *slot),
-            "slot {at}"
-        );
-    }
-    drop(leave(rt, first));
+    let (mut sender, mut second, mut third) = watched(rt, fabric, pass, row, target);
+    let sent = send(rt, &mut sender, row.lens);
+    receive(rt, &mut second, first(row.lens, row.given));
+    receive(rt, &mut third, first(row.lens, row.watched));
+    are_slots(rt, &second, row.slots);
+    drop(leave(rt, sender));
     drop(leave(rt, second));
     drop(leave(rt, third));
     sent
 }
 
 fn is_told(rt: &impl Abort, sent: Sent, told: (u32, u32, u32)) {
-    assert_eq!(rt; (sent.pushed, sent.given, sent.full), told);
+    assert!(rt; (sent.pushed, sent.given, sent.full) == told);
 }
 
 #[test]

@@ -3,9 +3,9 @@ ghost use Rattle.std.specs.Prelude.{◌≡◌};
 ghost use Rattle.nm_user.specs.Words.{IsPassIn};
 
 use super::lines::play;
-use super::{Sizes, User, come, leave};
+use super::{Sizes, User, come, leave, pull, push};
 use nm_io::NoGate;
-use nm_types::{PortId, Side};
+use nm_types::PortId;
 use nm_user::{Received, Sent, Session};
 use std::process::Abort;
 use std::sync::Wait;
@@ -50,27 +50,22 @@ fn put(session: &mut Session, port: PortId, frame: &[u8; 14])
     }
 }
 
-/// What was put is sent.
-fn send<R: Abort + Wait>(rt: &R, session: &mut Session, port: PortId) -> Sent
-    ensures { session.new.fabric ≡ session.old.fabric }
-{
-    assert!(rt; session.ring(port, Side::Tx).is_some());
-    match session.tx_sync(rt, port, &NoGate) {
-        Ok(sent) => sent,
-        Err(fault) => panic!(rt; "{fault:?}"),
-    }
-}
-
 /// The buffers of the frames read before go back, and what is there comes.
 fn receive<R: Abort + Wait>(rt: &R, session: &mut Session, port: PortId) -> Received
     ensures { session.new.fabric ≡ session.old.fabric }
 {
     session.give_all_back(port);
-    assert!(rt; session.has_port(port));
-    match session.rx_sync(rt, port, &NoGate) {
-        Ok(received) => received,
-        Err(fault) => panic!(rt; "{fault:?}"),
-    }
+    pull(rt, session, port)
+}
+
+/// All of a user's frames are sent, none of them short or lone, and the other's port is not gone.
+fn send<R: Abort + Wait>(rt: &R, user: &mut User, frame: &[u8; 14]) -> Sent
+    ensures { user.new.session.fabric ≡ user.old.session.fabric }
+{
+    put(&mut user.session, user.port, frame);
+    let sent = push(rt, &mut user.session, user.port, &NoGate);
+    assert!(rt; sent.pushed == FRAMES && sent.short == 0 && sent.lone == 0 && sent.gone == 0);
+    sent
 }
 
 /// A user sends its frames, and reads what comes as it goes.
@@ -79,12 +74,7 @@ fn send_all<R: Abort + Wait>(rt: &R, user: &mut User, frame: &[u8; 14]) -> Told
 {
     let (mut given, mut full, mut read) = (0u64, 0u64, 0u64);
     for _ in 0..TIMES {
-        put(&mut user.session, user.port, frame);
-        let sent = send(rt, &mut user.session, user.port);
-        assert_eq!(rt;
-            (sent.pushed, sent.short, sent.lone, sent.gone),
-            (FRAMES, 0, 0, 0)
-        );
+        let sent = send(rt, user, frame);
         given = given.wrapping_add(u64::from(sent.given));
         full = full.wrapping_add(u64::from(sent.full));
         let received = receive(rt, &mut user.session, user.port);
@@ -129,7 +119,7 @@ fn two_send<R: AllocGlobal + Threads + Abort + Wait + Sync>(
 
 /// Of so many frames each was given or found no room, and of those given some were read by the other.
 fn is_told(rt: &impl Abort, user: &Told, other: &Told) {
-    assert_eq!(rt; user.given.wrapping_add(user.full), 1000);
+    assert!(rt; user.given.wrapping_add(user.full) == 1000);
     assert!(rt; other.read <= user.given);
 }
 

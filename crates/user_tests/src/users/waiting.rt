@@ -4,9 +4,9 @@ ghost use Rattle.nm_user.specs.Words.{IsPassIn};
 
 use super::gates::send;
 use super::lines::{Line, NONE, are_lines, play};
-use super::{FOUR, FRAME, MONITOR, User, leave, three_come};
+use super::{FOUR, FRAME, MONITOR, User, leave, name_of, three_come};
 use nm_io::{Gate, Stage};
-use nm_types::{Name, Sides, WatchFault};
+use nm_types::{Sides, WatchFault};
 use nm_user::Detached;
 use std::process::Abort;
 use std::sync::{Barrier, Mutex, Wait};
@@ -24,10 +24,7 @@ struct UntilShut<'r, 'f, R> {
 
 /// Whether the port to be closed is not open: no user's monitor can watch it then.
 fn finds_none<R: Abort + Wait>(rt: &R, watcher: &mut User) -> bool {
-    let name = match Name::parse("vale0:c") {
-        Ok(name) => name,
-        Err(fault) => panic!(rt; "{fault:?}"),
-    };
+    let name = name_of(rt, "vale0:c");
     assert!(rt; watcher.session.is_monitor(watcher.port) && name.is_switch_port());
     let watched = watcher.session.watch(rt, watcher.port, &name, Sides::T);
     matches!(watched, Err(WatchFault::NoTarget))
@@ -104,17 +101,19 @@ fn close_while_held<R: AllocGlobal + Threads + Abort + Wait + Clock + Sync>(
     detached
 }
 
+/// The sessions are 1, 3 and 5, and the ports 2, 4 and 6.
+const LINES: &[(u32, Line)] = &[
+    (1, Line::Send(2, 0, 0)),
+    (1, Line::Grant(7, 6, 1, 0, 0)),
+    (5, Line::Shut(6)),
+    (1, Line::Done(8)),
+    (5, Line::Finish(6, NONE, 1)),
+];
+
 #[test]
 fn a_port_goes_once_its_lease_is_done(rt: HostRuntime) -> Result<(), Fail> {
     let (detached, history) = play(&rt, |fabric, pass| close_while_held(&rt, fabric, pass))?;
-    assert_eq!(rt; (detached.unread, detached.chain), (1, NONE));
-    let lines = [
-        (1, Line::Send(2, 0, 0)),
-        (1, Line::Grant(7, 6, 1, 0, 0)),
-        (5, Line::Shut(6)),
-        (1, Line::Done(8)),
-        (5, Line::Finish(6, NONE, 1)),
-    ];
-    are_lines(&rt, &history, &lines);
+    assert!(rt; detached.unread == 1 && detached.chain == NONE);
+    are_lines(&rt, &history, LINES);
     Ok(())
 }

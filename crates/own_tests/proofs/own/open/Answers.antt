@@ -1,6 +1,6 @@
 use Rattle.std.proofs.Common.{◌∷◌, [], nat_eq, refl}
 use Rattle.std.specs.List.{IsDistinct}
-use Rattle.own_tests.proofs.own.play.Goals as goal
+use Rattle.own_tests.proofs.own.open.Goals as goal
 
 five_apart : IsDistinct nat_eq (2 ∷ 3 ∷ 4 ∷ 5 ∷ 6 ∷ [])
 unfolding IsDistinct
