@@ -26,7 +26,7 @@ impl<'f> Seat<'f> {
         match mem::replace(self, Seat::Away) {
             Seat::Away => {}
             Seat::There { player, fault: _ } => {
-                let (pass, saves, ports) = player.leave_keeping(rt);
+                let (pass, saves, ports) = player.leave(rt);
                 fabric.join(main, pass);
                 kept.join(ports);
                 mem::replace(self, Seat::Gone { saves }).end();

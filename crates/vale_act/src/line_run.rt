@@ -30,7 +30,7 @@ impl<'f, R: Wait, G> Scene<'f, R, G> {
             (knowing main.old) (knowing main.new)) }
     {
         let pass = self.fabric.fork(main);
-        match Player::enter_keeping(self.alloc, self.rt, self.fabric, pass, number, self.names) {
+        match Player::enter(self.alloc, self.rt, self.fabric, pass, number, self.names) {
             Ok(player) => Ok(player),
             Err((fault, pass)) => {
                 self.fabric.join(main, pass);

@@ -16,27 +16,9 @@ use std::sync::Wait;
 use vale_fabric::{Fabric, Pass};
 
 impl<'f> Player<'f> {
-    /// A user of this number comes, of whose ports no frames are kept. If the record is full or
-    /// memory is wanting, the pass is handed back, and the user has stopped at its Enter.
+    /// A user of this number comes; the frames of its ports of these names are kept. If the record is
+    /// full or memory is wanting, the pass is handed back, and the user has stopped at its Enter.
     pub fn enter<R: Wait>(
-        alloc: Global,
-        rt: &R,
-        fabric: &'f Fabric,
-        pass: Pass,
-        number: u64,
-    ) -> Result<Player<'f>, (StepFault, Pass)>
-        requires { IsPassIn fabric.now pass }
-        ensures entered { IfOk result (HasEntered fabric.now (knowing pass) number) }
-        ensures names { IfOk result (λ player. player.names ≡ []) }
-        ensures pass { IfErr result (λ refused. IsPassIn fabric.now refused.1) }
-        ensures stops { IfErr result (λ refused. IsRefused (fixed_in fabric.now) (knowing pass)
-            (knowing refused.1) (asks.Enter number) refused.0) }
-    {
-        Player::enter_keeping(alloc, rt, fabric, pass, number, &[])
-    }
-
-    /// A user of this number comes; the frames of its ports of these names are kept.
-    pub fn enter_keeping<R: Wait>(
         alloc: Global,
         rt: &R,
         fabric: &'f Fabric,
@@ -74,20 +56,9 @@ impl<'f> Player<'f> {
         }
     }
 
-    /// Closes all ports in the order in which they were opened, and leaves. The files get the
-    /// frames of the ports.
-    pub fn leave<R: Wait>(self, rt: &R) -> (Pass, Vec<SaveFile>)
-        ensures pass { IsPassIn self.entry.session.fabric result.0 }
-        ensures left { IsLeft self.entry.session (knowing result.0) }
-        ensures saves { result.1.items ≡ self.entry.saves }
-        ensures there { IsThere None self.entry.session }
-    {
-        let left = self.leave_keeping(rt);
-        (left.0, left.1)
-    }
-
-    /// The same, with all frames of the ports that were kept, those of the files among them.
-    pub fn leave_keeping<R: Wait>(self, rt: &R) -> (Pass, Vec<SaveFile>, SavedPorts)
+    /// Closes all ports in the order in which they were opened, and leaves, with the notes of what is
+    /// saved and all frames of the ports that were kept, those of the notes among them.
+    pub fn leave<R: Wait>(self, rt: &R) -> (Pass, Vec<SaveFile>, SavedPorts)
         ensures pass { IsPassIn self.entry.session.fabric result.0 }
         ensures left { IsLeft self.entry.session (knowing result.0) }
         ensures saves { result.1.items ≡ self.entry.saves }

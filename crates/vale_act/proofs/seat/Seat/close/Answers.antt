@@ -19,9 +19,9 @@ pub returns-in-There-clause-closes : goal.returns-in-There-clause-closes
 returns-in-There-clause-closes g c =
     let is : c.meet.new.self ≡ There c.in-There.player c.in-There.fault = sym c.replace.ensures.value ∙ c.in-There.is in
     let on = subst (IsOn c.args.fabric.now) is c.meet.ensures.on.1 in
-    closes-there (fixed_in c.args.fabric.now).pool (knowing c.args.main.now) (knowing c.meet.new.main) (knowing c.join.new.pass) (knowing c.leave_keeping-pass.result.0) c.args.self.now c.meet.new.self c.replace-in-There.new.dest
-    c.in-There.player c.in-There.fault c.leave_keeping-pass.result.1 c.meet.ensures.meets is c.replace-in-There.ensures.after (ap (λ (f : Fixed). f.pool) on.1)
-    c.leave_keeping-pass.ensures.left c.leave_keeping-pass.ensures.saves c.join.ensures.joined c.join.ensures.known c.join.ensures.whole
+    closes-there (fixed_in c.args.fabric.now).pool (knowing c.args.main.now) (knowing c.meet.new.main) (knowing c.join.new.pass) (knowing c.leave-pass.result.0) c.args.self.now c.meet.new.self c.replace-in-There.new.dest
+    c.in-There.player c.in-There.fault c.leave-pass.result.1 c.meet.ensures.meets is c.replace-in-There.ensures.after (ap (λ (f : Fixed). f.pool) on.1)
+    c.leave-pass.ensures.left c.leave-pass.ensures.saves c.join.ensures.joined c.join.ensures.known c.join.ensures.whole
 
 pub returns-in-Away-clause-leaves : goal.returns-in-Away-clause-leaves
 returns-in-Away-clause-leaves g c =
@@ -31,9 +31,9 @@ returns-in-Away-clause-leaves g c =
 pub returns-in-There-clause-leaves : goal.returns-in-There-clause-leaves
 returns-in-There-clause-leaves g c =
     let is : c.meet.new.self ≡ There c.in-There.player c.in-There.fault = sym c.replace.ensures.value ∙ c.in-There.is in
-    leaver-leaving (knowing c.args.main.now) (knowing c.meet.new.main) (knowing c.join.new.pass) (knowing c.leave_keeping-pass.result.0) c.args.self.now c.meet.new.self c.replace-in-There.new.dest
+    leaver-leaving (knowing c.args.main.now) (knowing c.meet.new.main) (knowing c.join.new.pass) (knowing c.leave-pass.result.0) c.args.self.now c.meet.new.self c.replace-in-There.new.dest
     c.in-There.player c.in-There.fault c.meet.ensures.meets is (subst ComesAloneAt (sym c.replace-in-There.ensures.after) tt)
-    c.leave_keeping-pass.ensures.left c.join.ensures.joined c.join.ensures.known
+    c.leave-pass.ensures.left c.join.ensures.joined c.join.ensures.known
 
 pub returns-in-Gone-clause-leaves : goal.returns-in-Gone-clause-leaves
 returns-in-Gone-clause-leaves g c =
@@ -50,9 +50,9 @@ returns-in-There-clause-kept g c =
     let on = subst (IsOn c.args.fabric.now) is c.meet.ensures.on.1 in
     let pool = (fixed_in c.args.fabric.now).pool in
     let w = knowing c.join.new.pass in
-    keeps-left pool c.in-There.player.session.fixed.pool (knowing c.args.main.now) (knowing c.meet.new.main) w (knowing c.leave_keeping-pass.result.0) c.args.self.now c.meet.new.self
-    c.args.kept.now c.leave_keeping-pass.result.2 c.join-in-There.new.self c.meet.ensures.meets (ap (λ (f : Fixed). f.pool) on.1)
-    c.join.ensures.known c.join.ensures.pass.2 c.leave_keeping-pass.ensures.whole c.join-in-There.ensures
+    keeps-left pool c.in-There.player.session.fixed.pool (knowing c.args.main.now) (knowing c.meet.new.main) w (knowing c.leave-pass.result.0) c.args.self.now c.meet.new.self
+    c.args.kept.now c.leave-pass.result.2 c.join-in-There.new.self c.meet.ensures.meets (ap (λ (f : Fixed). f.pool) on.1)
+    c.join.ensures.known c.join.ensures.pass.2 c.leave-pass.ensures.whole c.join-in-There.ensures
 
 pub returns-in-Gone-clause-kept : goal.returns-in-Gone-clause-kept
 returns-in-Gone-clause-kept g c =
@@ -64,11 +64,11 @@ returns-in-Away-clause-saves g c =
 
 pub returns-in-There-clause-saves : goal.returns-in-There-clause-saves
 returns-in-There-clause-saves g c was =
-    saves-left c.replace-in-There.new.dest c.leave_keeping-pass.result.1 c.args.kept.now c.leave_keeping-pass.result.2 c.join-in-There.new.self c.replace-in-There.ensures.after c.join-in-There.ensures c.leave_keeping-pass.ensures.kept
+    saves-left c.replace-in-There.new.dest c.leave-pass.result.1 c.args.kept.now c.leave-pass.result.2 c.join-in-There.new.self c.replace-in-There.ensures.after c.join-in-There.ensures c.leave-pass.ensures.kept
 
 pub returns-in-Gone-clause-saves : goal.returns-in-Gone-clause-saves
 returns-in-Gone-clause-saves g c =
     saves-stay (knowing c.args.main.now) c.args.self.now c.meet.new.self c.replace-in-Gone.new.dest c.args.kept.now c.meet.ensures.meets.seat (c.replace-in-Gone.ensures.after ∙ (sym c.in-Gone.is ∙ c.replace.ensures.value))
 
 pub returns-in-There-clause-more : goal.returns-in-There-clause-more
-returns-in-There-clause-more g c = both-left c.args.kept.now c.leave_keeping-pass.result.2 c.join-in-There.new.self c.join-in-There.ensures
+returns-in-There-clause-more g c = both-left c.args.kept.now c.leave-pass.result.2 c.join-in-There.new.self c.join-in-There.ensures

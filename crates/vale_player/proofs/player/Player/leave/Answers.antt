@@ -4,7 +4,7 @@ use Rattle.vale_fabric.specs.Fabrics.{knowing}
 use Rattle.vale_player.specs.Kept.{AreWhole}
 use Rattle.vale_player.specs.Players.{PlayerState}
 use Rattle.vale_player.proofs.KeptPorts.{left-if-whole}
-use Rattle.vale_player.proofs.player.Player.leave_keeping.Goals as goal
+use Rattle.vale_player.proofs.player.Player.leave.Goals as goal
 
 pub returns-clause-whole : goal.returns-clause-whole
 returns-clause-whole g c =

@@ -1,6 +1,6 @@
 use Rattle.vale_fabric.specs.Fabrics.{knowing}
 use Rattle.vale_player.proofs.Entered.{has-entered}
-use Rattle.vale_player.proofs.player.Player.enter_keeping.Goals as goal
+use Rattle.vale_player.proofs.player.Player.enter.Goals as goal
 
 pub returns-in-Ok-clause-entered : goal.returns-in-Ok-clause-entered
 returns-in-Ok-clause-entered g c =
