@@ -22,7 +22,6 @@ pub mod JoinedParts
 pub mod SlotsJoined
 pub mod SavingRing
 pub mod SavingRead
-pub mod FramesCounted
 pub mod SavingHistory
 pub mod SavingSights
 pub mod SavingReads

@@ -37,6 +37,6 @@ pub use Rattle.vale_fabric.specs.Fabrics.{Answers, AnswersIn, IsPassIn, MayIn, R
 pub use Rattle.vale_fabric.specs.Fabrics.{knowing}
 pub use Rattle.vale_fabric.specs.Reading.{IsRead}
 pub use Rattle.vale_fabric.specs.Roots.{root_of}
-pub use Rattle.vale_line.specs.Gots.{is_last, buffers_of, frames_in, part_in}
+pub use Rattle.vale_line.specs.Gots.{buffers_of, frames_in, last_count, part_in}
 pub use Rattle.vale_line.specs.declared.got.Got.{Got}
 pub use Rattle.vale_own.specs.Side.{id_of}

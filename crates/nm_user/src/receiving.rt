@@ -1,11 +1,11 @@
 //! A receive sync: the buffers of the pushed slots go back, and what was granted to the port is
 //! published in its ring.
 ghost use Rattle.std.specs.Prelude.{ℕ, true, ◌≡◌, ◌≤◌, ◌<◌, ◌^◌, [], length, take, fold};
-ghost use Rattle.std.specs.Prelude.{cond};
+ghost use Rattle.std.specs.Prelude.{sum_by};
 ghost use Rattle.std.specs.Prelude.{IsSome, IfSome, IfOk, IfErr, OnOk, OnErr, Some, None};
 ghost use Rattle.nm_user.specs.Words.{AllOf, AreOf, IsBufferOf, IsNew, IsPassIn, IsRead, MayIn};
 ghost use Rattle.nm_user.specs.Words.{RefusesIn, Rx, back_on, buffers_of, can_receive};
-ghost use Rattle.nm_user.specs.Words.{is_last};
+ghost use Rattle.nm_user.specs.Words.{last_count};
 ghost use Rattle.nm_user.specs.Words.{fixed_in, frames_in, indices_of, is_pipe_name, knowing};
 ghost use Rattle.nm_user.specs.Words.{own_after_receive, own_with_arrival, part_in, place_with_id};
 ghost use Rattle.nm_user.specs.Words.{port_with_id, read_ask, refusal_at, ring_at, sync_fault_of};
@@ -104,11 +104,31 @@ fn give_and_take<R: Wait>(
     }
 }
 
-/// One, if a received buffer is the last one of its frame, and else none.
+/// One, if a frame ends in a received buffer.
 fn last_count(got: &Got) -> u32
-    ensures { result ≡ cond (is_last got.now) 1 0 }
+    ensures { result ≡ last_count got.now }
 {
     if got.rest == 0 { 1 } else { 0 }
+}
+
+/// How many frames end in received buffers.
+fn count_lasts(gots: &[Got]) -> u32
+    requires { length gots.now < 2 ^ 32 }
+    ensures { result ≡ sum_by last_count gots.now }
+{
+    let mut count = 0;
+    for i in 0..gots.len() {
+        count += last_count(&gots[i]);
+    }
+    count
+}
+
+/// How many frames lie in received buffers: each ends in the last of its own.
+fn frame_count(gots: &[Got]) -> u32
+    requires { length gots.now < 2 ^ 32 }
+    ensures { result ≡ length (frames_in gots.now) }
+{
+    count_lasts(gots)
 }
 
 /// How many bytes of a received buffer are a part of a frame.
@@ -133,13 +153,10 @@ fn publish(own: &mut OwnSide, at: usize, port: PortId, got: Got)
     own.receive_at(at, port, got.into_buf(), len, rest);
 }
 
-/// Publishes parts of frames in their order. Answers how many frames they are: each ends in the last of
-/// its own.
+/// Publishes parts of frames in their order.
 #[inline(never)]
-fn publish_all(own: &mut OwnSide, port: PortId, gots: Vec<Got>) -> u32
+fn publish_all(own: &mut OwnSide, port: PortId, gots: Vec<Got>)
     requires come { CanCome port.0 own.old.own (arrivals_in gots.items) }
-    requires few { length gots.items < 2 ^ 32 }
-    ensures count { result ≡ length (frames_in gots.items) }
     ensures own { own.new.own
         ≡ fold (own_with_arrival port.0) own.old.own (arrivals_in gots.items) }
     ensures region { (region : ℕ) → AllOf region own.old → AreOf region (buffers_of gots.items)
@@ -147,13 +164,10 @@ fn publish_all(own: &mut OwnSide, port: PortId, gots: Vec<Got>) -> u32
 {
     let at = own.place_of(port);
     let mut coming = gots.into_iter();
-    let mut count = 0;
     while let Some(got) = coming.next() {
-        count += last_count(&got);
         publish(own, at, port, got);
     }
     coming.destroy_empty();
-    count
 }
 
 /// Puts an own side back that was away.
@@ -232,7 +246,8 @@ impl<'f> Session<'f> {
         let frames = Frames::Gots(&got);
         self.fabric
             .settle(rt, &mut self.pass, gate, self.user, offers, frames);
-        let gave = publish_all(&mut own, port, got);
+        let gave = frame_count(&got);
+        publish_all(&mut own, port, got);
         put_back(&mut self.own, own);
         Ok(Received {
             entry,

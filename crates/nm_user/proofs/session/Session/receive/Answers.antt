@@ -1,4 +1,4 @@
-use Rattle.std.proofs.Common.{rules, arith, ◌≡◌, ◌∙◌, Bool, true, false, [], Some, None, refl, sym, ap, subst}
+use Rattle.std.proofs.Common.{rules, arith, ◌≡◌, ◌∙◌, Bool, true, false, List, [], length, Some, None, refl, sym, ap, subst}
 use Rattle.std.proofs.lemmas.Result.{IfOk-at_ok, IfErr-at_err}
 use Rattle.nm_types.specs.declared.fault.StepFault.{StepFault}
 use Rattle.nm_types.specs.declared.id.PortId.{PortId}
@@ -6,7 +6,8 @@ use Rattle.nm_types.specs.Faults.{sync_fault_of}
 use Rattle.nm_types.specs.OwnPorts.{OwnState}
 use Rattle.nm_types.specs.OwnSyncs.{own_after_receive}
 use Rattle.nm_port.specs.Regions.{SideState, AllOf, AreOf}
-use Rattle.vale_line.specs.Gots.{buffers_of}
+use Rattle.vale_line.specs.declared.got.Got.{Got}
+use Rattle.vale_line.specs.Gots.{buffers_of, frames_in}
 use Rattle.vale_steps.specs.declared.reading.Synced.{Synced}
 use Rattle.vale_fabric.specs.Fabrics.{Refuses, fixed_in, knowing}
 use Rattle.vale_entry.specs.Legal.{kept_ask}
@@ -71,22 +72,28 @@ returns-in-Err-clause-full g c =
     (subst (λ (o : OwnState). ReceivesNot (seen_with c.self.inside c.in-Some.own) (record (session_seen c.self.inside) { knows = knowing c.give_and_take-own.new.pass; own = o }) c.args.port.0 said) (sym (own-kept g c))
     (unreceived (reads g at).reads (full g c)))
 
-pub publish_all-gave-requires : goal.publish_all-gave-requires
-publish_all-gave-requires g c =
+pub publish_all-requires : goal.publish_all-requires
+publish_all-requires g c =
     let s = seen_with c.self.inside c.in-Some.own in
     let w = knowing c.give_and_take-own.new.pass in
     let mid = c.give_and_take-own.result.0.own in
     let mid-is = IfOk-at_ok (λ (synced : Synced). mid ≡ own_after_receive c.args.port.0 [] s.own) c.in-Ok.is c.give_and_take-own.ensures.own in
     let read = IfOk-at_ok (IsRead s.fixed s.knows w (reading s.own c.args.port c.args.is_pipe) c.args.port) c.in-Ok.is c.give_and_take-own.ensures.read in
+    record { come = can-publish s w c.args.port c.args.is_pipe c.in-Ok.synced (reads g (goal.at.publish_all-requires g c).In-Some) read mid mid-is }
+
+pub frame_count-gave-requires : goal.frame_count-gave-requires
+frame_count-gave-requires g c =
+    let s = seen_with c.self.inside c.in-Some.own in
+    let read = IfOk-at_ok (IsRead s.fixed s.knows (knowing c.give_and_take-own.new.pass) (reading s.own c.args.port c.args.is_pipe) c.args.port) c.in-Ok.is c.give_and_take-own.ensures.read in
     let few = read.few in
-    record { come = can-publish s w c.args.port c.args.is_pipe c.in-Ok.synced (reads g (goal.at.publish_all-gave-requires g c).In-Some) read mid mid-is; few = omega (arith, few) }
+    omega (arith, few)
 
 -- the session once what it gave is settled, and what it told
 abbrev after : (g : given.Over) → goal.After-put_back-2 g → SessionState
 after g c = record (session_seen c.self.inside) { knows = knowing c.settle.new.pass; own = own_in c.put_back-2.new.away }
 
 abbrev told : (g : given.Over) → goal.After-put_back-2 g → Received
-told g c = record { entry = c.entry-entry.result; gave = c.publish_all-gave.result; returned = c.give_and_take-own.result.1 }
+told g c = record { entry = c.entry-entry.result; gave = c.frame_count-gave.result; returned = c.give_and_take-own.result.1 }
 
 received : (g : given.Over) (c : goal.After-put_back-2 g) → ReadsHere (seen_with c.self.inside c.in-Some.own) c.args.port c.args.is_pipe
     → AreOf (fixed_in c.self.inside.fabric.now).region (buffers_of c.in-Ok.synced.got.items) × IsThere None (after g c) × IsReceived (seen_with c.self.inside c.in-Some.own) (after g c) c.args.port.0 (told g c)
@@ -100,9 +107,9 @@ received g c k =
     let back = sym (ap own_in c.put_back-2.ensures) in (
       gots-region s w c.args.port c.args.is_pipe c.in-Ok.synced k read,
       subst (λ (o : OwnState). IsThere None (record s { knows = x; own = o })) back
-          (there-so s w c.args.port c.args.is_pipe c.in-Ok.synced k read mid-is c.publish_all-gave.ensures.own ends),
+          (there-so s w c.args.port c.args.is_pipe c.in-Ok.synced k read mid-is c.publish_all.ensures.own ends),
       subst (λ (o : OwnState). IsReceived s (record s { knows = x; own = o }) c.args.port.0 (told g c)) back
-          (received-so s w c.args.port c.args.is_pipe c.in-Ok.synced k read mid-is c.publish_all-gave.ensures.own (told g c) ends c.entry-entry.ensures c.publish_all-gave.ensures.count c.give_and_take-own.ensures.returned),
+          (received-so s w c.args.port c.args.is_pipe c.in-Ok.synced k read mid-is c.publish_all.ensures.own (told g c) ends c.entry-entry.ensures (c.frame_count-gave.ensures ∙ ap (λ (gots : List Got). length (frames_in gots)) c.deref-2.ensures.value) c.give_and_take-own.ensures.returned),
     )
 
 pub invariant_of-self-2 : goal.invariant_of-self-2
@@ -111,9 +118,9 @@ invariant_of-self-2 g c =
     let region = (fixed_in c.self.inside.fabric.now).region in
     record {
       pass = c.settle.ensures.pass;
-      own = c.publish_all-gave.new.own;
+      own = c.publish_all.new.own;
       own_is = c.put_back-2.ensures;
-      region = c.publish_all-gave.ensures.region region (IfOk-at_ok (λ (synced : Synced). AllOf region c.give_and_take-own.result.0) c.in-Ok.is c.give_and_take-own.ensures.region) made.0;
+      region = c.publish_all.ensures.region region (IfOk-at_ok (λ (synced : Synced). AllOf region c.give_and_take-own.result.0) c.in-Ok.is c.give_and_take-own.ensures.region) made.0;
       there = made.1;
     }
 
