@@ -1,16 +1,14 @@
 ghost use Rattle.vale_fabric.specs.Fabrics.{IsPassIn};
 
-use crate::memory;
+use crate::{memory, users};
 use anyhow::{Result, anyhow};
-use nm_io::NoGate;
-use nm_types::{Limits, MAX_RING, Name, PortId, Side};
+use nm_types::{Limits, MAX_RING, PortId};
 use nm_user::Session;
 use std::alloc::{Alloc, Global};
 use std::fs::Files;
 use std::io::Print;
 use std::sync::Wait;
 use std::time::{Clock, Instant};
-use vale_book::Book;
 use vale_fabric::{Fabric, Pass};
 
 /// The buffers of the pool: two ports have the largest rings.
@@ -34,41 +32,24 @@ fn frame() -> [u8; FRAME] {
     bytes
 }
 
-/// Opens a port with the largest rings.
-fn open<R: Wait>(rt: &R, session: &mut Session, name: &str) -> Option<PortId> {
-    let name = Name::parse(name).ok()?;
-    session.open(rt, &name, MAX_RING, MAX_RING, 0).ok()
-}
-
 /// Puts copies of a frame, and sends them. Answers how many found room.
 fn send<R: Wait>(rt: &R, session: &mut Session, port: PortId, frame: &[u8; FRAME]) -> Option<u32> {
     for _ in 0..FRAMES {
         session.put_frame(port, frame);
     }
-    if session.ring(port, Side::Tx).is_none() {
-        return None;
-    }
-    Some(session.tx_sync(rt, port, &NoGate).ok()?.given)
-}
-
-/// Gives back the buffers of the frames that came before, and takes those that are there. Answers
-/// how many came.
-fn receive<R: Wait>(rt: &R, session: &mut Session, port: PortId) -> Option<u32> {
-    session.give_all_back(port);
-    if !session.has_port(port) {
-        return None;
-    }
-    Some(session.rx_sync(rt, port, &NoGate).ok()?.gave)
+    users::send(rt, session, port)
 }
 
 /// Opens two ports, and plays some rounds, in each of which frames go from the first port to the
 /// second one. `None`: a call failed, or a frame did not come.
 fn carry<R: Wait>(rt: &R, session: &mut Session, rounds: u32) -> Option<()> {
-    let from = open(rt, session, "vale0:a")?;
-    let to = open(rt, session, "vale0:b")?;
+    let from = users::open(rt, session, "vale0:a", MAX_RING)?;
+    let to = users::open(rt, session, "vale0:b", MAX_RING)?;
     let frame = frame();
     for _ in 0..rounds {
-        if send(rt, session, from, &frame)? != FRAMES || receive(rt, session, to)? != FRAMES {
+        if send(rt, session, from, &frame)? != FRAMES
+            || users::receive(rt, session, to)? != FRAMES
+        {
             return None;
         }
     }
@@ -102,17 +83,6 @@ fn play<R: Clock + Wait>(
     }
 }
 
-/// Ends a book once all of its buffers are free, as they are when its user has left.
-fn end<R: Wait>(rt: &R, book: Book) {
-    for _ in rt.forever() {
-        if book.free() == book.buffers() {
-            drop(book.close());
-            return;
-        }
-    }
-    unreachable!()
-}
-
 /// Sends 400 frames of 9,000 bytes from one port to another, and prints how many came, or, if
 /// `is_timed`, 20,000 of them, and also prints how many nanoseconds each took and the most memory so
 /// far. The record keeps all of them.
@@ -125,7 +95,7 @@ pub fn run<R: Print + Clock + Files + Alloc + Wait>(
     let (fabric, mut pass) = Fabric::new(alloc, POOL, Limits::VERSION_2)?;
     let own = fabric.fork(&mut pass);
     let played = play(rt, alloc, &fabric, own, rounds);
-    end(rt, fabric.close(rt, pass));
+    users::end(rt, fabric.close(rt, pass));
     let (nanos, count) = (played?, rounds * FRAMES);
     println!(rt; "jumbo: {count} frames of {FRAME} bytes sent and received")?;
     if is_timed {

@@ -1,5 +1,6 @@
 //! Measures parts of vale: `bench capture`, `bench pool`, `bench turn`, `bench line`, `bench batch`,
-//! `bench text`, `bench fabric`, `bench broadcast`, `bench jumbo`.
+//! `bench text`, `bench fabric`, `bench broadcast`, `bench jumbo`,
+//! `bench session`.
 //! Without a word each part runs small and prints counts alone.
 //! `bench asks FILE POOL` serves the asks of a file by a drive.
 #![tactic(auto)]
@@ -14,9 +15,11 @@ mod line;
 mod look;
 mod memory;
 mod pool;
+mod session;
 mod text;
 mod threads;
 mod turn;
+mod users;
 
 use anyhow::Result;
 use std::env;
@@ -36,6 +39,7 @@ fn main(rt: HostRuntime) -> Result<()> {
             "fabric" => Shared::Fabric.run(&rt, rt.alloc(), true)?,
             "broadcast" => broadcast::run(&rt, rt.alloc(), true)?,
             "jumbo" => jumbo::run(&rt, rt.alloc(), true)?,
+            "session" => session::run(&rt, true)?,
             "asks" => {
                 let mut said = env::args(&rt)?.skip(2);
                 return asks::run(&rt, rt.alloc(), said.next(), said.next());
@@ -53,6 +57,7 @@ fn main(rt: HostRuntime) -> Result<()> {
         Shared::Fabric.run(&rt, rt.alloc(), false)?;
         broadcast::run(&rt, rt.alloc(), false)?;
         jumbo::run(&rt, rt.alloc(), false)?;
+        session::run(&rt, false)?;
     }
     Ok(())
 }
