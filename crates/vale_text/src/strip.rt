@@ -187,7 +187,6 @@ pub(crate) fn make_room<K: Sink>(out: &mut K, strip: &mut Strip, count: usize) -
 }
 
 /// Writes a byte.
-#[tactic(auto, using(crate::proofs::Strips::strips))]
 #[inline(always)]
 pub(crate) fn put_byte<K: Sink>(out: &mut K, strip: &mut Strip, byte: u8) -> Result<(), Failed>
     ensures gathers { Puts K.Sink out.old out.new strip.old strip.new result (byte ∷ []) }
@@ -199,7 +198,6 @@ pub(crate) fn put_byte<K: Sink>(out: &mut K, strip: &mut Strip, byte: u8) -> Res
 }
 
 /// Writes a text that is longer than a strip.
-#[tactic(auto, using(crate::proofs::Strips::strips))]
 fn put_long<K: Sink>(out: &mut K, strip: &mut Strip, text: &[u8]) -> Result<(), Failed>
     ensures gathers { Puts K.Sink out.old out.new strip.old strip.new result (text.now) }
     ensures counts { CountsFailures K.Sink out.old out.new result }
@@ -209,7 +207,6 @@ fn put_long<K: Sink>(out: &mut K, strip: &mut Strip, text: &[u8]) -> Result<(), 
 }
 
 /// Writes a text as it is.
-#[tactic(auto, using(crate::proofs::Strips::strips))]
 pub(crate) fn put_text<K: Sink>(out: &mut K, strip: &mut Strip, text: &[u8]) -> Result<(), Failed>
     ensures gathers { Puts K.Sink out.old out.new strip.old strip.new result (text.now) }
     ensures counts { CountsFailures K.Sink out.old out.new result }
@@ -223,7 +220,6 @@ pub(crate) fn put_text<K: Sink>(out: &mut K, strip: &mut Strip, text: &[u8]) -> 
 }
 
 /// Writes a mark, and a text as it is behind it.
-#[tactic(auto, using(crate::proofs::Strips::strips))]
 pub(crate) fn put_text_after<K: Sink>(
     out: &mut K,
     strip: &mut Strip,
@@ -244,7 +240,6 @@ pub(crate) fn put_text_after<K: Sink>(
 }
 
 /// Writes a number in decimal digits.
-#[tactic(auto, using(crate::proofs::Strips::strips))]
 pub(crate) fn put_number<K: Sink>(out: &mut K, strip: &mut Strip, number: u64) -> Result<(), Failed>
     ensures gathers { Puts K.Sink out.old out.new strip.old strip.new result (decimal number) }
     ensures counts { CountsFailures K.Sink out.old out.new result }
@@ -255,7 +250,6 @@ pub(crate) fn put_number<K: Sink>(out: &mut K, strip: &mut Strip, number: u64) -
 }
 
 /// Writes a mark, and a number in decimal digits behind it.
-#[tactic(auto, using(crate::proofs::Strips::strips))]
 pub(crate) fn put_number_after<K: Sink>(
     out: &mut K,
     strip: &mut Strip,
@@ -290,7 +284,6 @@ pub(crate) fn put_more_runs<K: Sink>(
 }
 
 /// Writes a number, or the first and the last one of a span with a dash between them.
-#[tactic(auto, using(crate::proofs::Strips::strips))]
 pub(crate) fn put_span<K: Sink>(out: &mut K, strip: &mut Strip, span: Span) -> Result<(), Failed>
     ensures gathers { Puts K.Sink out.old out.new strip.old strip.new result (span_text span) }
     ensures counts { CountsFailures K.Sink out.old out.new result }
@@ -301,7 +294,6 @@ pub(crate) fn put_span<K: Sink>(out: &mut K, strip: &mut Strip, span: Span) -> R
 }
 
 /// Writes a mark, and a span behind it.
-#[tactic(auto, using(crate::proofs::Strips::strips))]
 #[inline(always)]
 pub(crate) fn put_span_after<K: Sink>(
     out: &mut K,
@@ -319,7 +311,6 @@ pub(crate) fn put_span_after<K: Sink>(
 }
 
 /// Spells bytes that a strip has room for.
-#[tactic(auto, using(crate::proofs::Strips::strips))]
 #[inline(always)]
 fn put_part<K: Sink>(out: &mut K, strip: &mut Strip, bytes: &[u8]) -> Result<(), Failed>
     requires { 2 * length bytes.now ≤ ROOM }
@@ -361,7 +352,6 @@ pub(crate) fn put_hex<K: Sink>(out: &mut K, strip: &mut Strip, bytes: &[u8]) -> 
 pub(crate) const SHORT_FRAME: usize = PART;
 
 /// Writes a short frame behind a comma.
-#[tactic(auto, using(crate::proofs::Strips::strips))]
 pub(crate) fn put_short_frame<K: Sink>(
     out: &mut K,
     strip: &mut Strip,
