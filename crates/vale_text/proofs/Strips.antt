@@ -1,13 +1,16 @@
 -- Writing by way of a strip.
-use Rattle.std.proofs.Common.{◌≡◌, ℕ, zero, suc, ◌+◌, ◌-◌, ◌<◌, ◌≤◌, List, [], ◌∷◌, ◌++◌, length, take, drop, get_or, slice_get, map, Option, Some, Result, Ok, Err, refl, sym, ap, subst, ◌∙◌, arith, append_assoc, take_all}
+use Rattle.std.proofs.Common.{◌≡◌, ℕ, zero, suc, ◌+◌, ◌-◌, ◌<◌, ◌≤◌, inl, inr, List, [], ◌∷◌, ◌++◌, length, take, drop, get_or, slice_get, map, Option, Some, Result, Ok, Err, refl, sym, ap, subst, ◌∙◌, arith, append_assoc, take_all}
 use Rattle.std.specs.List.{flat_map, IsFirstAndRest}
 use Rattle.std.proofs.lemmas.List.{append-nil, take-append-drop, take_more}
 use Rattle.std.proofs.lemmas.Grind.{flat_map-append}
 use Rattle.std.proofs.lemmas.Option.{get_or_from_slice_get, slice_get_within}
 use Rattle.std.proofs.Math.Seq.{drop-length, take-add}
 use Rattle.vale_entry.specs.Transcript.{after_blank, list_text, words_text}
+use Rattle.vale_text.specs.Failures.{CountsFailures}
 use Rattle.vale_text.specs.Pieces.{behind, part_text, with_parts, parts_text}
 use Rattle.vale_text.specs.declared.pieces.Part.{Part}
+use Rattle.nm_io.specs.Counts.{Rose}
+use Rattle.nm_io.specs.declared.sink.Sink as sinks
 use Rattle.nm_io.specs.Held.{grown, GrowsByPrefix, Writes}
 use Rattle.nm_io.specs.Gathered.{Gathered, Gathers}
 use Rattle.nm_io.proofs.Growth.{grown_nothing}
@@ -48,6 +51,22 @@ adds old new p q r a first is =
 pub goes_out : {T E : Type 0} (old middle new : Option (List ℕ)) (p q a : List ℕ) (result : Result T E) → middle ≡ grown old p → q ≡ [] → Writes middle new result a → Gathers old new p q result a
 goes_out old middle new p q a result out empty written =
     subst (λ (rest : List ℕ). Gathers old new p rest result a) (sym empty) (gathered_out old middle new p a result out written)
+
+-- A call that may fail, and then another one: what the first leaves of the count of failures.
+
+rises : (old middle new : ℕ) → old ≤ middle → Rose middle new → Rose old new
+rises old middle new up rose =
+    elim rose [
+      | inl less ↦ inl (omega (arith, up, less))
+      | inr most ↦ inr most
+    ]
+
+pub counts_after : {K T E : Type 0} (k : sinks.Ghosts K) (old middle new : K) (result : Result T E) → k.faults old ≤ k.faults middle → CountsFailures k middle new result → CountsFailures k old new result
+counts_after k old middle new (Ok x) up c = record { later = omega (arith, up, c.later); cause = tt }
+counts_after k old middle new (Err e) up c = record { later = omega (arith, up, c.later); cause = rises (k.faults old) (k.faults middle) (k.faults new) up c.cause }
+
+pub counts_fail : {K T E F : Type 0} (k : sinks.Ghosts K) (old new : K) (e : E) (f : F) → CountsFailures {T = T} k old new (Err e) → CountsFailures {T = T} k old new (Err f)
+counts_fail k old new e f c = record { later = c.later; cause = c.cause }
 
 -- words, and then other words
 pub words_after : {T E : Type 0} (old middle new : Option (List ℕ)) (p q r : List ℕ) (a b : List (List ℕ)) (result : Result T E) → Gathered old middle p q (words_text a) → Gathers middle new q r result (words_text b) → Gathers old new p r result (words_text (a ++ b))
@@ -122,6 +141,11 @@ flat_fails old middle new p q f xs i x h same first second =
 pub list_text-is : {X : Type 0} (f : X → List ℕ) (x : X) (xs : List X) → list_text (map f (x ∷ xs)) ≡ f x ++ flat_map (behind 44 f) xs
 list_text-is f x [] = sym (append-nil (f x))
 list_text-is f x (y ∷ ys) = ap (λ text. f x ++ (44 ∷ text)) (list_text-is f y ys)
+
+-- a list without items
+pub list_nothing : {X : Type 0} (f : X → List ℕ) (xs : List X) → length xs ≡ 0 → 45 ∷ [] ≡ list_text (map f xs)
+list_nothing f [] none = refl
+list_nothing f (x ∷ xs) none = absurd (omega arith)
 
 -- a list whose first item was gathered, and then the others
 pub gathers_list : {X T E : Type 0} (old middle new : Option (List ℕ)) (p q r : List ℕ) (f : X → List ℕ) (xs : List X) (x : X) (others : List X) (result : Result T E) → IsFirstAndRest xs x others → Gathered old middle p q (f x) → Gathers middle new q r result (flat_map (behind 44 f) others) → Gathers old new p r result (list_text (map f xs))

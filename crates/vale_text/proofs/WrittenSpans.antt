@@ -1,5 +1,5 @@
 -- Writing the spans of numbers, one after another.
-use Rattle.std.proofs.Common.{◌≡◌, ◌≤◌, ◌<◌, ◌+◌, ◌-◌, ◌==◌, ℕ, suc, Bool, if◌then◌else◌, List, [], ◌∷◌, ◌++◌, length, map, drop, get_or, decimal, codes, Option, Result, refl, sym, ap, subst, ◌∙◌, arith, append_assoc, length-drop, drop-cons, get_or-drop, false, drop-drop}
+use Rattle.std.proofs.Common.{◌≡◌, ◌≤◌, ◌<◌, ◌+◌, ◌-◌, ◌==◌, ℕ, suc, Bool, if◌then◌else◌, List, [], ◌∷◌, ◌++◌, length, map, drop, get_or, decimal, codes, Option, Result, refl, sym, ap, subst, ◌∙◌, arith, append_assoc, length-drop, drop-cons, get_or-drop, true, false, drop-drop}
 use Rattle.std.specs.List.{flat_map}
 use Rattle.std.proofs.lemmas.List.{append-nil}
 use Rattle.std.proofs.lemmas.Grind.{flat_map-append}
@@ -8,7 +8,7 @@ use Rattle.nm_io.specs.Held.{GrowsByPrefix}
 use Rattle.nm_io.specs.Gathered.{Gathered, Gathers}
 use Rattle.nm_io.proofs.Gathering.{gathered_more, gathered_fails, grows_past}
 use Rattle.vale_entry.specs.declared.entry.Span.{Span}
-use Rattle.vale_entry.specs.Spans.{single_span, spans_in}
+use Rattle.vale_entry.specs.Spans.{single_span, spans_in, spans_of}
 use Rattle.vale_entry.specs.Transcript.{span_text, buffers_text, list_text}
 use Rattle.vale_text.specs.Pieces.{behind}
 use Rattle.vale_text.specs.Spans.{IsRun, ArePlaced, AreAdded}
@@ -53,6 +53,22 @@ span-fails old middle new p q version numbers rest others span before now w next
     ∙ ap (flat_map f) (ap (λ (t : List Span). w.done ++ t) (sym next) ∙ sym w.spans)) in
     subst (λ (t : List ℕ). GrowsByPrefix old new (p ++ t)) whole
     (grows_past old new p front tail (gathered_fails old middle new p q (flat_map f w.done) (f span) w.gathered part))
+
+-- no numbers
+pub no-buffers : (version : ℕ) (numbers : List ℕ) → numbers ≡ [] → 45 ∷ [] ≡ buffers_text version numbers
+no-buffers version numbers none = sym (ap (buffers_text version) none ∙ by_version (version == 1))
+  where
+    by_version : (b : Bool) → list_text (map span_text (if b then map single_span [] else spans_of [])) ≡ 45 ∷ []
+    by_version true = refl
+    by_version false = refl
+
+-- the first span is not written
+pub buffers-fail : (old new : Option (List ℕ)) (p : List ℕ) (version : ℕ) (numbers others : List ℕ) (span : Span) → spans_in version numbers ≡ span ∷ spans_in version others
+    → GrowsByPrefix old new (p ++ span_text span) → GrowsByPrefix old new (p ++ buffers_text version numbers)
+buffers-fail old new p version numbers others span first part =
+    subst (λ (t : List ℕ). GrowsByPrefix old new (p ++ t))
+    (sym (list_text-is span_text span (spans_in version others)) ∙ ap (λ (t : List Span). list_text (map span_text t)) (sym first))
+    (grows_past old new p (span_text span) (flat_map (behind 44 span_text) (spans_in version others)) part)
 
 -- the first span, and then the others
 pub buffers-written : {T E : Type 0} (old middle new : Option (List ℕ)) (p q r : List ℕ) (version : ℕ) (numbers others : List ℕ) (span : Span) (result : Result T E)

@@ -74,7 +74,8 @@ fn place_few(buf: &mut [u8], at: usize, bytes: &[u8])
 #[inline(always)]
 pub(crate) fn place_digits(buf: &mut [u8], at: usize, bytes: &[u8]) -> usize
     requires { at + 2 * length bytes.now ≤ length buf.old }
-    ensures { Placed buf.old buf.new at (flat_map hex_byte bytes.now) result }
+    ensures placed { Placed buf.old buf.new at (flat_map hex_byte bytes.now) result }
+    ensures end { result ≡ at + 2 * length bytes.now }
 {
     if bytes.len() < BLOCK {
         place_few(buf, at, bytes);
@@ -102,7 +103,8 @@ fn place_mark(buf: &mut [u8], at: usize, no_learn: bool) -> usize
 #[inline(always)]
 fn place_hex(buf: &mut [u8], at: usize, bytes: &[u8]) -> usize
     requires { at + 2 * length bytes.now < length buf.old }
-    ensures { Placed buf.old buf.new at (hex_text bytes.now) result }
+    ensures placed { Placed buf.old buf.new at (hex_text bytes.now) result }
+    ensures within { result ≤ at + 2 * length bytes.now + 1 }
 {
     if bytes.is_empty() {
         buf[at] = b'.';
@@ -115,8 +117,9 @@ fn place_hex(buf: &mut [u8], at: usize, bytes: &[u8]) -> usize
 #[inline(always)]
 pub(crate) fn place_next_frame(buf: &mut [u8], at: usize, bytes: &[u8], no_learn: bool) -> usize
     requires { at + 2 * length bytes.now + 2 < length buf.old }
-    ensures { Placed buf.old buf.new at
+    ensures placed { Placed buf.old buf.new at
         (behind 44 frame_text (record { bytes = bytes.now; no_learn = no_learn })) result }
+    ensures within { result ≤ at + 2 * length bytes.now + 3 }
 {
     buf[at] = b',';
     let from = place_mark(buf, at + 1, no_learn);

@@ -153,7 +153,6 @@ fn put_each_after<T: Spelled, K: Sink>(
 }
 
 /// Writes items with commas between them, or a dash if there are none.
-#[tactic(auto, using(crate::proofs::Strips::strips))]
 fn put_list<T: Spelled, K: Sink>(out: &mut K, strip: &mut Strip, items: &[T]) -> Result<(), Failed>
     ensures gathers { Puts K.Sink out.old out.new strip.old strip.new result (list_text (map T.text items.now)) }
     ensures counts { CountsFailures K.Sink out.old out.new result }
@@ -166,7 +165,6 @@ fn put_list<T: Spelled, K: Sink>(out: &mut K, strip: &mut Strip, items: &[T]) ->
 }
 
 /// Writes the mark of a frame that teaches nothing.
-#[tactic(auto, using(crate::proofs::Strips::strips))]
 #[inline(always)]
 fn put_mark<K: Sink>(out: &mut K, strip: &mut Strip, no_learn: bool) -> Result<(), Failed>
     ensures gathers { Puts K.Sink out.old out.new strip.old strip.new result (if no_learn then 126 ∷ [] else []) }
@@ -179,7 +177,6 @@ fn put_mark<K: Sink>(out: &mut K, strip: &mut Strip, no_learn: bool) -> Result<(
     }
 }
 
-#[tactic(auto, using(crate::proofs::Strips::strips))]
 fn put_frame<K: Sink>(out: &mut K, strip: &mut Strip, frame: (&[u8], bool)) -> Result<(), Failed>
     ensures gathers { Puts K.Sink out.old out.new strip.old strip.new result
         (frame_text (record { bytes = frame.entry.0.now; no_learn = frame.entry.1 })) }
@@ -207,7 +204,6 @@ fn put_next_frame<K: Sink>(
     put_frame(out, strip, frame)
 }
 
-#[tactic(auto, using(crate::proofs::Strips::lists))]
 fn put_frames<K: Sink>(out: &mut K, strip: &mut Strip, frames: &Batch) -> Result<(), Failed>
     ensures gathers { Puts K.Sink out.old out.new strip.old strip.new result (frames_text frames.now) }
     ensures counts { CountsFailures K.Sink out.old out.new result }
@@ -259,7 +255,6 @@ fn put_others<K: Sink>(
 }
 
 /// Writes the spans of numbers with commas between them, or a dash if there are none.
-#[tactic(auto, using(crate::proofs::Strips::strips))]
 fn put_buffers<K: Sink>(
     out: &mut K,
     strip: &mut Strip,

@@ -322,7 +322,6 @@ fn put_part<K: Sink>(out: &mut K, strip: &mut Strip, bytes: &[u8]) -> Result<(),
     Ok(())
 }
 
-#[tactic(auto, using(crate::proofs::Strips::parts))]
 fn put_digits<K: Sink>(out: &mut K, strip: &mut Strip, bytes: &[u8]) -> Result<(), Failed>
     ensures gathers { Puts K.Sink out.old out.new strip.old strip.new result (flat_map hex_byte bytes.now) }
     ensures counts { CountsFailures K.Sink out.old out.new result }
