@@ -52,17 +52,24 @@ digits-next {a} {b} {c} {at} xs done n p q =
     subst (λ (e : ℕ). Placed a c at (flat_map hex_byte (take (done + n) xs)) e) end
     (subst (λ (t : List ℕ). Placed a c at t (at + 2 * done + 2 * n)) text (placed-then p q))
 
+-- sixteen bytes more, which may overlap those before
+pub digits-over : {a b c : List ℕ} {at : ℕ} (xs : List ℕ) (done from : ℕ) → at ≤ length a → from ≤ done → done ≤ length xs
+    → Placed a b at (flat_map hex_byte (take done xs)) (at + 2 * done)
+    → Placed b c (at + 2 * from) (flat_map hex_byte (take 16 (drop from xs))) (at + 2 * from + 32)
+    → Placed a c at (flat_map hex_byte (take (from + 16) xs)) (at + 2 * (from + 16))
+digits-over {a} {b} {c} {at} xs done from fits before within p q =
+    let few : 2 * from ≤ length (flat_map hex_byte (take done xs)) = omega (arith, hex-length (take done xs), length-take-le done xs within) in
+    let less : Placed a b at (flat_map hex_byte (take from xs)) (at + 2 * from) =
+    subst (λ (t : List ℕ). Placed a b at t (at + 2 * from)) (hex-take from (take done xs) ∙ ap (flat_map hex_byte) (take-take from done xs before)) (placed-less (2 * from) fits few p) in
+    digits-next {a = a} {b = b} {c = c} {at = at} xs from 16 less q
+
 -- the last sixteen bytes, which may overlap those before
 pub digits-last : {a b c : List ℕ} {at : ℕ} (xs : List ℕ) (done last : ℕ) → at ≤ length a → last ≤ done → done ≤ length xs → last + 16 ≡ length xs
     → Placed a b at (flat_map hex_byte (take done xs)) (at + 2 * done)
     → Placed b c (at + 2 * last) (flat_map hex_byte (take 16 (drop last xs))) (at + 2 * last + 32)
     → Placed a c at (flat_map hex_byte xs) (at + 2 * length xs)
 digits-last {a} {b} {c} {at} xs done last fits before within whole p q =
-    let few : 2 * last ≤ length (flat_map hex_byte (take done xs)) = omega (arith, hex-length (take done xs), length-take-le done xs within) in
-    let less : Placed a b at (flat_map hex_byte (take last xs)) (at + 2 * last) =
-    subst (λ (t : List ℕ). Placed a b at t (at + 2 * last)) (hex-take last (take done xs) ∙ ap (flat_map hex_byte) (take-take last done xs before)) (placed-less (2 * last) fits few p) in
-    let sum : last + 16 ≡ length xs = whole in
-    let next = digits-next {a = a} {b = b} {c = c} {at = at} xs last 16 less q in
+    let next = digits-over {a = a} {b = b} {c = c} {at = at} xs done last fits before within p q in
     let end : at + 2 * (last + 16) ≡ at + 2 * length xs = ap (λ n. at + 2 * n) whole in
     subst (λ (e : ℕ). Placed a c at (flat_map hex_byte xs) e) end
     (subst (λ (t : List ℕ). Placed a c at (flat_map hex_byte t) (at + 2 * (last + 16))) (take_all (last + 16) xs (omega (arith, whole))) next)

@@ -60,6 +60,20 @@ fn place_many(buf: &mut [u8], at: usize, bytes: &[u8])
     place_block(buf, at + 2 * last, &bytes[last..]);
 }
 
+/// Spells 32 to 64 bytes: the first and the last thirty-two, which may overlap.
+#[inline(always)]
+fn place_halves(buf: &mut [u8], at: usize, bytes: &[u8])
+    requires { (32 ≤ length bytes.now) × (length bytes.now ≤ 64) × (at + 2 * length bytes.now ≤ length buf.old) }
+    ensures { Placed buf.old buf.new at (flat_map hex_byte bytes.now) (at + 2 * length bytes.now) }
+{
+    let last = bytes.len() - BLOCK;
+    let half = last - BLOCK;
+    place_block(buf, at, bytes);
+    place_block(buf, at + 2 * BLOCK, &bytes[BLOCK..]);
+    place_block(buf, at + 2 * half, &bytes[half..]);
+    place_block(buf, at + 2 * last, &bytes[last..]);
+}
+
 fn place_few(buf: &mut [u8], at: usize, bytes: &[u8])
     requires { at + 2 * length bytes.now ≤ length buf.old }
     ensures { Placed buf.old buf.new at (flat_map hex_byte bytes.now) (at + 2 * length bytes.now) }
@@ -77,12 +91,15 @@ pub(crate) fn place_digits(buf: &mut [u8], at: usize, bytes: &[u8]) -> usize
     ensures placed { Placed buf.old buf.new at (flat_map hex_byte bytes.now) result }
     ensures end { result ≡ at + 2 * length bytes.now }
 {
-    if bytes.len() < BLOCK {
+    let len = bytes.len();
+    if len < BLOCK {
         place_few(buf, at, bytes);
+    } else if 2 * BLOCK <= len && len <= 4 * BLOCK {
+        place_halves(buf, at, bytes);
     } else {
         place_many(buf, at, bytes);
     }
-    at + 2 * bytes.len()
+    at + 2 * len
 }
 
 /// Writes the mark of a frame that teaches nothing, and returns where it ends.
