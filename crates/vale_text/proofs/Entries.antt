@@ -1,9 +1,9 @@
 -- Writing the lines of entries by way of a page.
-use Rattle.std.proofs.Common.{◌≡◌, ℕ, ◌+◌, ◌<◌, List, [], ◌∷◌, ◌++◌, length, take, drop, get_or, Option, Result, Ok, Err, sym, ap, subst, ◌∙◌, arith, append_assoc, length-take-le, take_all}
+use Rattle.std.proofs.Common.{◌≡◌, ℕ, ◌+◌, ◌<◌, List, [], ◌∷◌, ◌++◌, length, take, drop, get_or, Option, None, Some, Result, Ok, Err, sym, ap, subst, ◌∙◌, arith, append_assoc, length-append, length-take-le, take_all}
 use Rattle.std.proofs.lemmas.List.{take_more, append-nil, take-append-drop}
 use Rattle.nm_io.specs.Held.{grown, GrowsByPrefix, Writes}
 use Rattle.nm_io.proofs.Growth.{grown-grown, grown_nothing, grows_longer, grows_more}
-use Rattle.std.proofs.Math.Seq.{drop-length}
+use Rattle.std.proofs.Math.Seq.{drop-length, take-append_seam, drop-append_seam}
 use Rattle.nm_io.specs.Gathered.{Gathered}
 use Rattle.nm_io.proofs.Gathering.{gathered_more, gathered_fails, grows_past}
 use Rattle.vale_entry.specs.declared.entry.Entry.{Entry}
@@ -65,3 +65,30 @@ pub grows_as : (old new : Option (List ℕ)) (p q a : List ℕ) → q ≡ p ++ a
 grows_as old new p q a is part = subst (GrowsByPrefix old new) is part
 
 pub ruleset gathering_lines = (gathered_behind, gathered_over, grows_none, grows_as, grows_longer, grows_more, grown-grown)
+
+abbrev held_bytes : Option (List ℕ) → List ℕ
+held_bytes None = []
+held_bytes (Some bytes) = bytes
+
+-- what lines in memory and a strip hold, once a line went their way
+pub lines_gathered : (a b p q text : List ℕ) → Gathered (Some a) (Some b) p q text → b ++ q ≡ (a ++ p) ++ text
+lines_gathered a b p q text went =
+    let all : List ℕ = p ++ text in
+    let held : b ≡ a ++ take went.count all = ap held_bytes went.held in
+    ap (λ bytes. bytes ++ q) held ∙ ap (λ rest. (a ++ take went.count all) ++ rest) went.rest
+    ∙ append_assoc a (take went.count all) (drop went.count all) ∙ ap (λ bytes. a ++ bytes) (take-append-drop went.count all) ∙ sym (append_assoc a p text)
+
+-- the lines go out, and the strip stays
+pub gathered_front : (old new : Option (List ℕ)) (p l m r a : List ℕ) → l ++ r ≡ p ++ a → new ≡ grown old l → m ≡ [] → Gathered old new p (m ++ r) a
+gathered_front old new p l m r a is out empty = record {
+  count = length l;
+  within = omega (arith, ap length is, length-append l r);
+  held = out ∙ ap (grown old) (sym (ap (take (length l)) (sym is) ∙ take-append_seam l r));
+  rest = ap (λ bytes. bytes ++ r) empty ∙ sym (ap (drop (length l)) (sym is) ∙ drop-append_seam l r);
+}
+
+-- a prefix of them
+pub grows_front : (old new : Option (List ℕ)) (p l r a : List ℕ) → l ++ r ≡ p ++ a → GrowsByPrefix old new l → GrowsByPrefix old new (p ++ a)
+grows_front old new p l r a is part = subst (GrowsByPrefix old new) is (grows_longer old new l r part)
+
+pub ruleset gathering_entries = (lines_gathered, gathered_behind, gathered_front, grows_front, grows_none)

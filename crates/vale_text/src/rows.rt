@@ -605,7 +605,7 @@ pub(crate) struct EntryLine<'a> {
 }
 
 /// Writes the line of an entry under its number.
-fn put_entry_line<K: Sink>(
+pub(crate) fn put_entry_line<K: Sink>(
     out: &mut K,
     strip: &mut Strip,
     line: &EntryLine<'_>,
@@ -621,7 +621,7 @@ fn put_entry_line<K: Sink>(
 
 /// Writes the line of an entry under its number, by way of a strip that is empty again then.
 #[tactic(auto, using(crate::proofs::Strips::strips))]
-pub(crate) fn put_whole_line<K: Sink>(
+fn put_whole_line<K: Sink>(
     out: &mut K,
     strip: &mut Strip,
     line: &EntryLine<'_>,

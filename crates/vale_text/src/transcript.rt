@@ -8,8 +8,8 @@ ghost use Rattle.vale_entry.specs.Transcript.{newest, start_line, entry_line, en
 ghost use Rattle.vale_text.specs.declared.transcript.PutError.TheVariants.{Failed as PutFailed, NoMemory as OutOfMemory};
 ghost use Rattle.vale_text.specs.Written.{LineBytes, BlamesSink};
 
-use crate::rows::{EndLine, EntryLine, NEWEST, StartLine, put_whole_line};
-use crate::strip::Strip;
+use crate::rows::{EndLine, EntryLine, NEWEST, StartLine, put_entry_line};
+use crate::strip::{Strip, put_strip};
 use nm_io::{Failed, Sink, Text, put_all};
 use nm_types::NoMemory;
 use std::alloc::Global;
@@ -146,21 +146,31 @@ fn put_line<K: Sink, T: Text>(out: &mut K, lines: &mut Lines, line: &T) -> Resul
     Ok(())
 }
 
-/// Writes the line of an entry in memory, or says that there is none left.
+/// Writes the line of an entry in memory by way of a strip, or says that there is none left.
+#[tactic(auto, using(crate::proofs::Entries::gathering_entries))]
 fn gather_entry(lines: &mut Lines, strip: &mut Strip, line: &EntryLine<'_>) -> Result<(), NoMemory>
-    requires { strip.old ≡ [] }
-    ensures ok { OnOk result
-        (lines.new.bytes ≡ lines.old.bytes ++ entry_line line.now.version line.now.number line.now.entry.now) }
-    ensures emptied { OnOk result (strip.new ≡ []) }
+    ensures { OnOk result (lines.new.bytes ++ strip.new ≡ (lines.old.bytes ++ strip.old)
+        ++ entry_line line.now.version line.now.number line.now.entry.now) }
 {
-    match put_whole_line(lines, strip, line) {
+    match put_entry_line(lines, strip, line) {
         Ok(()) => Ok(()),
         Err(Failed) => Err(NoMemory),
     }
 }
 
-/// Writes the line of an entry by way of those gathered, which go out if they are many.
-#[tactic(auto, using(crate::proofs::Entries::gathering_lines))]
+/// Writes what a strip holds in memory, or says that there is none left.
+fn gather_strip(lines: &mut Lines, strip: &mut Strip) -> Result<(), NoMemory>
+    ensures { OnOk result (lines.new.bytes ≡ lines.old.bytes ++ strip.old) }
+{
+    match put_strip(lines, strip) {
+        Ok(()) => Ok(()),
+        Err(Failed) => Err(NoMemory),
+    }
+}
+
+/// Writes the line of an entry by way of a strip, and of the lines gathered, which go out if they are
+/// many.
+#[tactic(auto, using(crate::proofs::Entries::gathering_entries))]
 fn put_entry<K: Sink>(
     out: &mut K,
     lines: &mut Lines,
@@ -168,12 +178,10 @@ fn put_entry<K: Sink>(
     number: u32,
     entry: &Entry,
 ) -> Result<(), PutError>
-    requires { strip.old ≡ [] }
-    ensures gathers { Gathers (K.holds out.old) (K.holds out.new) lines.old.bytes lines.new.bytes
-        result (entry_line newest number entry.now) }
+    ensures gathers { Gathers (K.holds out.old) (K.holds out.new) (lines.old.bytes ++ strip.old)
+        (lines.new.bytes ++ strip.new) result (entry_line newest number entry.now) }
     ensures later { K.faults out.old ≤ K.faults out.new }
     ensures cause { IfErr result (BlamesSink (K.faults out.old) (K.faults out.new)) }
-    ensures emptied { OnOk result (strip.new ≡ []) }
 {
     gather_entry(
         lines,
@@ -190,7 +198,8 @@ fn put_entry<K: Sink>(
     Ok(())
 }
 
-/// Writes the lines of the entries, the first of which has the number 1.
+/// Writes the lines of the entries, the first of which has the number 1. Several short ones share a
+/// strip.
 fn put_entries<K: Sink>(out: &mut K, lines: &mut Lines, entries: &[Entry]) -> Result<(), PutError>
     requires { length entries.now < 2 ^ 32 - 1 }
     ensures gathers { Gathers (K.holds out.old) (K.holds out.new) lines.old.bytes lines.new.bytes
@@ -202,6 +211,7 @@ fn put_entries<K: Sink>(out: &mut K, lines: &mut Lines, entries: &[Entry]) -> Re
     for (i, entry) in entries.iter().enumerate() {
         put_entry(out, lines, &mut strip, i as u32 + 1, entry)?;
     }
+    gather_strip(lines, &mut strip)?;
     Ok(())
 }
 

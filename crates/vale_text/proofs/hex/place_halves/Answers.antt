@@ -1,4 +1,4 @@
-use Rattle.std.proofs.Common.{◌≡◌, ◌+◌, ◌-◌, length, arith}
+use Rattle.std.proofs.Common.{◌+◌, ◌-◌, length, arith}
 use Rattle.std.proofs.lemmas.List.{take_rest}
 use Rattle.vale_text.proofs.Places.{digits-next, digits-over, digits-last}
 use Rattle.vale_text.proofs.hex.place_halves.Goals as goal

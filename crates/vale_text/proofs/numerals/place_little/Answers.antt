@@ -1,4 +1,4 @@
-use Rattle.std.proofs.Common.{◌≡◌, ◌≤◌, ◌+◌, ℕ, length, decimal, sym, subst, arith}
+use Rattle.std.proofs.Common.{◌≤◌, ◌+◌, ℕ, length, decimal, sym, subst, arith}
 use Rattle.std.proofs.lemmas.Fmt.{length-decimal-le}
 use Rattle.vale_text.proofs.numerals.place_little.Goals as goal
 
