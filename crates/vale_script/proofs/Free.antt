@@ -1,5 +1,5 @@
 -- A line without fixed words misses none.
-use Rattle.std.proofs.Common.{◌≡◌, ℕ, Bool, true, false, ◌&&◌, List, [], ◌∷◌, refl}
+use Rattle.std.proofs.Common.{◌≡◌, ◌≤◌, ℕ, Bool, true, false, ◌&&◌, List, [], ◌∷◌, length, take, refl, arith}
 use Rattle.std.proofs.lemmas.Bool.{or_from, and_parts}
 use Rattle.nm_types.specs.declared.fault.LineCause.TheVariants as causes
 use Rattle.vale_script.specs.declared.forms.Place.{Place}
@@ -68,4 +68,30 @@ free-verb verbs.Watch free = absurd cc
 pub none_fixed : (verb : Verb) (before : List ℕ) (words : List (List ℕ)) → has_fixed_words verb ≡ false → any_out causes.Word (form_of verb).places before words ≡ false
 none_fixed verb before words free = free-places (form_of verb).places before words (free-verb verb free)
 
-pub ruleset none_of_free = (none_fixed)
+-- the first two places of a form are free
+two-free : (verb : Verb) → are-free (take 2 (form_of verb).places) ≡ true
+two-free verbs.Pool = refl
+two-free _ = refl
+
+none-left : (places : List Place) (before : List ℕ) → any_out causes.Word places before [] ≡ false
+none-left [] before = refl
+none-left (place ∷ places) before = refl
+
+free-two : (places : List Place) (before : List ℕ) (words : List (List ℕ)) → are-free (take 2 places) ≡ true → length words ≤ 2 → any_out causes.Word places before words ≡ false
+free-two [] before words free few = refl
+free-two (a ∷ places) before [] free few = refl
+free-two (a ∷ []) before (u ∷ words) free few =
+    or_from (is_out causes.Word a before u) (any_out causes.Word [] u words) (free-place a before u (and_parts (is-free a) true free).0) refl
+free-two (a ∷ b ∷ places) before (u ∷ []) free few =
+    let parts = and_parts (is-free a) (is-free b && true) free in
+    or_from (is_out causes.Word a before u) (any_out causes.Word (b ∷ places) u []) (free-place a before u parts.0) refl
+free-two (a ∷ b ∷ places) before (u ∷ v ∷ []) free few =
+    let parts = and_parts (is-free a) (is-free b && true) free in
+    let second = or_from (is_out causes.Word b u v) (any_out causes.Word places v []) (free-place b u v (and_parts (is-free b) true parts.1).0) (none-left places v) in
+    or_from (is_out causes.Word a before u) (any_out causes.Word (b ∷ places) u (v ∷ [])) (free-place a before u parts.0) second
+free-two (a ∷ b ∷ places) before (u ∷ v ∷ w ∷ words) free few = absurd (omega (arith, few))
+
+pub none_in_two : (verb : Verb) (before : List ℕ) (words : List (List ℕ)) → length words ≤ 2 → any_out causes.Word (form_of verb).places before words ≡ false
+none_in_two verb before words few = free-two (form_of verb).places before words (two-free verb) few
+
+pub ruleset none_of_free = (none_fixed, none_in_two)

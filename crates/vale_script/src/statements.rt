@@ -1,6 +1,8 @@
 //! What the words of a line say by themselves.
 ghost use Rattle.std.specs.Prelude.{◌≡◌, ◌≤◌, ◌<◌, ◌^◌, ◌&&◌, nat_le, ℕ, map, length, IfOk, None, Some, true, Ok};
-ghost use Rattle.vale_script.specs.Places.{field_of};
+ghost use Rattle.nm_types.specs.declared.fault.LineCause.TheVariants as causes;
+ghost use Rattle.vale_script.specs.Forms.{form_of};
+ghost use Rattle.vale_script.specs.Places.{any_out, field_of};
 ghost use Rattle.vale_words.specs.Fixed.{word_at, side_of, sides_of};
 ghost use Rattle.vale_script.specs.Keeps.{IsSoundStatement, NamesUser};
 ghost use Rattle.nm_types.specs.Names.{IsName};
@@ -8,7 +10,7 @@ ghost use Rattle.vale_script.specs.Sound.{IsUserName, IsFileName, IsSoundDeed};
 ghost use Rattle.vale_script.specs.declared.statements.LineFault.TheVariants as faults;
 ghost use Rattle.vale_script.specs.Statements.{shown, user_at, port_at, text_at, number_at, two_at, address_at, byte_at_place, open_act, put_with, put_act, fwd_act, poke_act, move_act, swap_act, extra_act, watch_act, named_act, plain_act, hex_act, play_act, save_act, act_of, statement_of, cause_by, cause_of_words, has_form, said_by_verb, words_said, line_said, Tells, TellsSaid, shown_text};
 
-use crate::forms::{Verb, form_of, verb_of};
+use crate::forms::{Place, Verb, form_of, verb_of};
 use crate::places::{any_out, field_of, greatest_of, has_fixed_words};
 use crate::script::{Act, ScriptWord};
 use nm_types::{
@@ -412,8 +414,17 @@ fn cause_by(verb: Verb, first: &[u8], others: &[&[u8]]) -> Option<LineCause>
     }
 }
 
-/// Whether words are as many as a line of this form has, with its fixed words at their places.
+/// Whether any of the words behind the first one is none of those that its place in this form has. Each
+/// such place stands behind a user's and a port's name.
 #[tactic(auto, using(crate::proofs::Free::none_of_free))]
+fn misses_fixed(verb: Verb, places: &[Place], first: &[u8], others: &[&[u8]]) -> bool
+    requires { places.now ≡ (form_of verb).places }
+    ensures { result ≡ any_out causes.Word (form_of verb).places first.now (map (λ w. w.now) others.now) }
+{
+    has_fixed_words(verb) && others.len() > 2 && any_out(LineCause::Word, places, first, others)
+}
+
+/// Whether words are as many as a line of this form has, with its fixed words at their places.
 fn has_form(verb: Verb, words: &[&[u8]]) -> bool
     ensures { result ≡ has_form verb (map (λ w. w.now) words.now) }
 {
@@ -423,7 +434,7 @@ fn has_form(verb: Verb, words: &[&[u8]]) -> bool
     let form = form_of(verb);
     form.least <= others.len()
         && others.len() <= form.places.len()
-        && !(has_fixed_words(verb) && any_out(LineCause::Word, form.places, first, others))
+        && !misses_fixed(verb, form.places, first, others)
 }
 
 /// Why the words of a line are no such line, by the words alone.
