@@ -1,5 +1,5 @@
 //! Buffers that are moved into the cells of a run, and out of them.
-ghost use Rattle.std.specs.Prelude.{◌≡◌, ◌+◌, ◌-◌, ◌<◌, ◌≤◌, ◌^◌, [], ◌++◌, length, take, drop, map, sum_by, vec_len, vec_capacity, is_some, true};
+ghost use Rattle.std.specs.Prelude.{◌≡◌, ◌+◌, ◌-◌, ◌<◌, ◌≤◌, ◌^◌, [], ◌++◌, length, take, drop, map, sum_by, vec_len, vec_capacity};
 ghost use Rattle.vale_line.specs.Cells.{AreFull, AreEmpty, SameCells, emptied, with_buffer, gots_in};
 ghost use Rattle.vale_line.specs.Gots.{blank, buffers_of, last_count};
 
@@ -9,16 +9,6 @@ use nm_region::Buf;
 
 /// A cell of a ring: a buffer with its frame, or nothing.
 pub(crate) type Cell = nm_reach::Cell<Got>;
-
-/// Writes the zeros of the buffer in a cell, if nothing is written there.
-pub(crate) fn prepare(cell: &mut Cell)
-    requires { is_some cell.old ≡ true }
-    ensures { cell.new ≡ cell.old }
-{
-    let mut got = cell.take();
-    got.buf.prepare();
-    cell.put(got);
-}
 
 /// Takes the buffers out of cells, to the end of others.
 #[tactic(auto, using(crate::proofs::CellLemmas::cells))]

@@ -11,7 +11,7 @@ ghost use Rattle.vale_line.specs.Rings.{held, ring_state, IsAt, IsRing, IsRingWi
 
 use crate::got::Got;
 use crate::lot::{Lot, count_ready, push_ready};
-use crate::moves::{Cell, discard, joined, prepare, put_run_bufs, take_run, take_run_bufs};
+use crate::moves::{Cell, discard, joined, put_run_bufs, take_run, take_run_bufs};
 use nm_reach::{Field, Reach};
 use nm_region::Buf;
 use nm_types::{LeaseId, NoMemory};
@@ -55,15 +55,6 @@ fn pop_first(lots: &mut VecDeque<Lot>) -> Option<Lot>
         lots.pop_back()
     } else {
         lots.pop_front()
-    }
-}
-
-/// Whether the last buffer is the first of two that lie in one page, so that the other one is quick to
-/// write while that page is at hand.
-fn ends_in_page(gots: &[Got]) -> bool {
-    match gots {
-        [.., got] => got.buf.index() % 2 == 0,
-        [] => false,
     }
 }
 
@@ -256,21 +247,9 @@ impl Ring {
           lots = map (completed id.0 gots.items) (ring_state self.old).lots;
         } }
     {
-        self.prepare_behind(&gots);
         match place_of(&self.lots, id) {
             Some(at) => self.lots[at].complete(gots),
             None => unreachable!(),
-        }
-    }
-
-    /// Writes the zeros of the first idle buffer, if nothing is written there and the last of these
-    /// buffers lies in front of one in its page.
-    fn prepare_behind(&mut self, gots: &[Got])
-        requires { IsRing self.old }
-        ensures { self.new ≡ self.old }
-    {
-        if ends_in_page(gots) && self.lent == 0 && self.idle.len() > 0 {
-            prepare(self.idle.get_mut(0));
         }
     }
 

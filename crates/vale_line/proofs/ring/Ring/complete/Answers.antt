@@ -1,12 +1,10 @@
-use Rattle.std.proofs.Common.{List, length, map, Some, refl, sym, ap, subst, ◌∙◌}
+use Rattle.std.proofs.Common.{List, length, Some, refl, ap, ◌∙◌}
 use Rattle.std.specs.List.{list_any}
 use Rattle.std.proofs.lemmas.Bool.{both_ways}
 use Rattle.std.specs.VecDeque.{deque_with_item}
 use Rattle.vale_line.specs.declared.lot.Lot.{Lot}
-use Rattle.vale_lease.specs.Leases.{AreLeases}
-use Rattle.vale_line.specs.declared.ring.Ring.{Ring}
-use Rattle.vale_line.specs.Lines.{HeldLot, is_out_at, leases_of, completed}
-use Rattle.vale_line.specs.Rings.{held_lots, ring_state, IsRing}
+use Rattle.vale_line.specs.Lines.{HeldLot, is_out_at}
+use Rattle.vale_line.specs.Rings.{held_lots, ring_state}
 use Rattle.vale_line.proofs.LotLemmas.{slots-out}
 use Rattle.vale_line.proofs.RingLemmas.{held-found, held-none, held-completed, none-found, done_at}
 use Rattle.vale_line.proofs.ring.Ring.complete.Goals as goal
@@ -15,30 +13,27 @@ pub unreachable-requires : goal.unreachable-requires
 unreachable-requires c =
     let lots = c.args.self.now.lots.items in
     let id = c.args.id.0 in
-    let none = rw c.prepare_behind.ensures at c.in-None.ensures.none in
-    both_ways (list_any (is_out_at id) (held_lots lots)) (held-none id lots none) (slots-out id (length c.args.gots.items) (held_lots lots) c.requires.out)
+    both_ways (list_any (is_out_at id) (held_lots lots)) (held-none id lots c.in-None.ensures.none) (slots-out id (length c.args.gots.items) (held_lots lots) c.requires.out)
 
 pub complete-requires : goal.complete-requires
 complete-requires c =
-    let lots = c.prepare_behind.new.self.lots.items in
+    let lots = c.args.self.now.lots.items in
     let lot = c.index_mut.result.now in
     record { out = ap (λ (l : Lot). l.gots) c.index_mut.ensures.value ∙ none-found c.args.id.0 lots c.in-Some.at lot c.in-Some.ensures.within c.in-Some.ensures.found }
 
 pub returns-clause-ring : goal.returns-clause-ring
 returns-clause-ring c =
-    let r = c.prepare_behind.new.self in
+    let r = c.args.self.now in
     let now = c.complete.new.self in
     let same = ap (λ (l : Lot). l.reach) c.complete.ensures ∙ ap (λ (l : Lot). l.reach) c.index_mut.ensures.value in
-    done_at r (deque_with_item r.lots c.in-Some.at now) c.in-Some.at c.index_mut.result.now now (subst IsRing (sym c.prepare_behind.ensures) c.requires.ring) c.in-Some.ensures.within refl refl same
+    done_at r (deque_with_item r.lots c.in-Some.at now) c.in-Some.at c.index_mut.result.now now c.requires.ring c.in-Some.ensures.within refl refl same
 
 pub returns-clause-line : goal.returns-clause-line
 returns-clause-line c =
-    let r = c.prepare_behind.new.self in
+    let r = c.args.self.now in
     let at = c.in-Some.at in
     let lot = c.index_mut.result.now in
     let now = c.complete.new.self in
     let out = held-found c.args.id.0 r.lots.items at lot c.in-Some.ensures.within c.in-Some.ensures.found in
     let is = c.complete.ensures ∙ ap (λ (l : Lot). record l { gots = Some c.args.gots }) c.index_mut.ensures.value in
-    let are = subst (λ (t : Ring). AreLeases (leases_of (ring_state t).lots)) (sym c.prepare_behind.ensures) c.requires.leases in
-    ap (λ (ls : List HeldLot). record (ring_state r) { lots = ls }) (held-completed r.lots.items c.args.id.0 at c.args.gots lot now are c.in-Some.ensures.within out is)
-    ∙ ap (λ (t : Ring). record (ring_state t) { lots = map (completed c.args.id.0 c.args.gots.items) (ring_state t).lots }) c.prepare_behind.ensures
+    ap (λ (ls : List HeldLot). record (ring_state r) { lots = ls }) (held-completed r.lots.items c.args.id.0 at c.args.gots lot now c.requires.leases c.in-Some.ensures.within out is)
