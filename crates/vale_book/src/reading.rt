@@ -9,7 +9,7 @@ ghost use Rattle.vale_book.specs.Reading.{IsGiven, IsOffered, IsRead};
 use crate::book::Book;
 use nm_region::Buf;
 use nm_types::{PortId, StepFault};
-use vale_port::open_port;
+use vale_port::offered_port;
 use vale_steps::reading::{Synced, read, reading_at, sizes_for};
 
 impl Book {
@@ -46,7 +46,7 @@ impl Book {
         ensures back { IfErr result (λ refused. refused.1 ≡ back) }
         ensures err { OnErr result (self.new ≡ self.old) }
     {
-        let Some(place) = open_port(&self.ports, port) else {
+        let Some(place) = offered_port(&self.ports, port) else {
             unreachable!()
         };
         let reading = reading_at(&self.ports, &self.watches, port, place, is_pipe);

@@ -9,7 +9,7 @@ use crate::book::Book;
 use crate::noting::session_at;
 use crate::shutting::name_at;
 use nm_types::{Batch, PortId, Side, StepFault};
-use vale_port::open_port;
+use vale_port::offered_port;
 use vale_steps::offers::Offers;
 use vale_steps::sending::{count, send};
 use vale_steps::tables::table_of;
@@ -31,7 +31,7 @@ impl Book {
         ensures full { IfErr result (IsRefusal self.old (asks.Send port batch.now)) }
         ensures err { OnErr result (self.new ≡ self.old) }
     {
-        let Some(place) = open_port(&self.ports, port) else {
+        let Some(place) = offered_port(&self.ports, port) else {
             unreachable!()
         };
         let session = session_at(&self.ports, place);

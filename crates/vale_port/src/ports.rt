@@ -1,4 +1,4 @@
-ghost use Rattle.std.specs.Prelude.{◌≡◌, ◌≤◌, ◌==◌, length, position, IfOk, IfSome, IfNone};
+ghost use Rattle.std.specs.Prelude.{◌≡◌, ◌≤◌, ◌==◌, length, position, true, IsTrue, IfOk, IfSome, IfNone};
 ghost use Rattle.std.specs.List.{prefix_len};
 ghost use Rattle.vale_port.specs.Words.{list_any, open_port, port_at, shutting_port};
 ghost use Rattle.vale_port.specs.Words.{switch_of};
@@ -71,7 +71,8 @@ pub fn shutting_port(ports: &[Port], id: PortId) -> Option<usize>
     place_of_shutting(ports, id)
 }
 
-/// Returns the place of the open port to which frames are offered. It looks at few of the ports.
+/// Returns the place of the open port of this id, to which frames are offered or which its session
+/// syncs. It looks at few of the ports.
 pub fn offered_port(ports: &[Port], to: PortId) -> Option<usize>
     requires { AreByRisingIds ports.now }
     ensures some { IfSome result (IsFoundAt (λ all. open_port all to.0) ports.now) }
@@ -112,6 +113,14 @@ pub fn open_ports_on(alloc: Global, ports: &[Port], name: &Name) -> Result<Vec<P
     ids_on(alloc, ports, name)
 }
 
+/// Tells whether the port at a place is open, of this id and on the switch of a name.
+fn stands_open_on(ports: &[Port], at: usize, id: PortId, name: &Name) -> bool
+    ensures { IsTrue result
+        → list_any (is_open_id_on (switch_of name.now) id.0) ports.now ≡ true }
+{
+    at < ports.len() && ports[at].is_open_at(id) && ports[at].is_open_beside(name)
+}
+
 fn has_open_on(ports: &[Port], id: PortId, name: &Name) -> bool
     ensures { result ≡ list_any (is_open_id_on (switch_of name.now) id.0) ports.now }
 {
@@ -120,10 +129,18 @@ fn has_open_on(ports: &[Port], id: PortId, name: &Name) -> bool
         .any(|port| port.is_open_at(id) && port.is_open_beside(name))
 }
 
+/// The same, looked for first where the port stands if the ports are by rising ids.
+fn has_open_near(ports: &[Port], id: PortId, name: &Name) -> bool
+    ensures { result ≡ list_any (is_open_id_on (switch_of name.now) id.0) ports.now }
+{
+    let at = ports.partition_point(|port| port.id().0 < id.0);
+    stands_open_on(ports, at, id, name) || has_open_on(ports, id, name)
+}
+
 /// Tells whether the port of this id is one of the open ports on the switch of a name.
 pub fn is_open_on(ports: &[Port], id: PortId, name: &Name) -> bool
     ensures { result
         ≡ list_any (λ port. port.0 == id.0) (open_ids (switch_of name.now) ports.now) }
 {
-    has_open_on(ports, id, name)
+    has_open_near(ports, id, name)
 }

@@ -4,4 +4,4 @@ use Rattle.vale_port.proofs.Lookups.{any-open}
 use Rattle.vale_port.proofs.ports.is_open_on.Goals as goal
 
 pub returns : goal.returns
-returns c = c.has_open_on.ensures ∙ any-open (switch_of c.args.name.now) c.args.id.0 c.args.ports.now
+returns c = c.has_open_near.ensures ∙ any-open (switch_of c.args.name.now) c.args.id.0 c.args.ports.now

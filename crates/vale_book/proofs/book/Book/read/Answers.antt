@@ -9,6 +9,7 @@ use Rattle.vale_own.specs.Recorded.{Recorded, standing}
 use Rattle.vale_book.proofs.Moves.{Moves, Stays, kept-on, after-on, room-on}
 use Rattle.vale_book.proofs.ReadMoves.{never-missing, returned, IsAsked, IsReading, read-known, sized, sizes-small, read_made, count-fits, is-counted, IsRest, read-moves, read-stays, read-full, given-on, offered-on}
 use Rattle.vale_book.proofs.ReadTold.{said-on, cut-on, few-on}
+use Rattle.vale_book.proofs.Standing.{by-ids}
 use Rattle.vale_book.proofs.book.Book.read.Goals as goal
 
 -- what is known before the sizes of what is ready are
@@ -27,6 +28,11 @@ known-before c =
 
 known : (c : goal.After-read) → IsReading c.self.inside c.reading_at-reading.result c.in-Ok.sizes.items (indices_of c.args.back.items)
 known c = known-before c.before
+
+pub offered_port-requires : goal.offered_port-requires
+offered_port-requires c =
+    let b = c.self.inside in
+    rw c.deref.ensures.value (by-ids b.pool.buffers b.history.entries b c.self.invariant.stands)
 
 pub unreachable-requires : goal.unreachable-requires
 unreachable-requires c =

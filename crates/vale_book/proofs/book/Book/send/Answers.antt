@@ -16,6 +16,7 @@ use Rattle.vale_book.proofs.Moves.{Moves, before, moved, stayed, record-moved, h
 use Rattle.vale_book.proofs.Found.{IsOpenHere, open-here, never-missing}
 use Rattle.vale_book.proofs.SendMoves.{IsSending, send_made, can-parts, can-look_up, ids-rise, send-at, send-table, sender-counted, counts-fit_offers, send-moves, said-sent, sent-stand, table-same, full-sent}
 use Rattle.vale_book.proofs.book.Book.send.Goals.{In-Some, After-count, After-send-sent}
+use Rattle.vale_book.proofs.Standing.{by-ids}
 use Rattle.vale_book.proofs.book.Book.send.Goals as goal
 
 -- the sender's port stands at the place found
@@ -58,6 +59,11 @@ moves c =
     let e = c.in-Ok.ensures in
     send-moves c.self.inside (next c) c.args.port c.in-Some.place c.args.batch.now (open_ids (switch_of c.name_at-name.result) c.deref-5.result.now) c.of-monitor.result c.session_at-session.result c.in-Some-table_of.at c.index_mut.result.now c.self.invariant (sent c) e.entries e.promised e.limits e.fits
     (rw e.table refl) (c.count.ensures ∙ (rw (e.offers, c.len.ensures) refl)) refl refl refl refl refl refl
+
+pub offered_port-requires : goal.offered_port-requires
+offered_port-requires c =
+    let b = c.self.inside in
+    rw c.deref.ensures.value (by-ids b.pool.buffers b.history.entries b c.self.invariant.stands)
 
 pub unreachable-requires : goal.unreachable-requires
 unreachable-requires c =
