@@ -9,7 +9,7 @@ use nm_types::{LeaseId, NoMemory, PortId};
 use std::alloc::Global;
 use std::io::{self, Print};
 use std::time::{Clock, Duration, Instant};
-use vale_line::{Got, Lease, LeaseRoom, Line};
+use vale_line::{Got, Lease, LeaseRoom, Line, Sizes};
 use vale_serve::unwrap_all;
 
 /// The buffers of the ring.
@@ -17,9 +17,6 @@ const RING: u32 = 1024;
 
 /// The frames of a round.
 const FRAMES: usize = 64;
-
-/// The slots of each frame of a round.
-const WANT: [u32; FRAMES] = [1; FRAMES];
 
 const FRAME: [u8; 60] = [0x5a; 60];
 
@@ -90,7 +87,7 @@ fn play_round(
         gots,
         mut bufs,
     } = rooms;
-    let Some(mut lease) = line.grant(id, PortId(0), lease, &WANT) else {
+    let Some(mut lease) = line.grant(id, PortId(0), lease, &Sizes::ones(FRAMES as u32)) else {
         gots.destroy_empty();
         bufs.destroy_empty();
         return (0, back);

@@ -4,6 +4,8 @@
 
 mod cuts;
 pub mod laws;
+mod sizes;
 
 pub use cuts::part;
 pub use nm_types::{MAX_FRAME_BYTES, slots};
+pub use sizes::{Sizes, Told};

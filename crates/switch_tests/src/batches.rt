@@ -1,10 +1,11 @@
 ghost use Rattle.std.specs.Prelude.{◌≡◌, ◌≤◌, All, length};
 ghost use Rattle.nm_types.specs.Sendable.{IsFrame};
 
+use nm_frag::Told;
 use nm_types::{Batch, MAX_FRAME_BYTES, PortId};
 use std::alloc::Global;
 use std::process::Abort;
-use vale_batch::{Dest, Lists, Lookup, classify};
+use vale_batch::{Compared, Dest, Lists, Lookup, Want, classify};
 use vale_learn::Table;
 
 /// From 02:00:00:00:00:0a to all.
@@ -72,7 +73,7 @@ impl Switch {
     /// The port to which all of some frames from a port go, each to it alone.
     fn sole(&mut self, rt: &impl Abort, from: u32, frames: &[(&[u8], bool)]) -> Option<PortId> {
         let batch = batch_of(rt, self.alloc, frames);
-        match Lookup::new(self.alloc, &mut self.table, PortId(from), &batch) {
+        match Lookup::new(self.alloc, &mut self.table, PortId(from), &Compared::new(&batch)) {
             Ok(lookup) => lookup.sole(),
             Err(_) => panic!(rt; "no memory"),
         }
@@ -87,6 +88,14 @@ fn is_dest(dest: &Dest, to: u32, count: usize) -> bool {
 /// So many ports want some, and so many frames are short and lone.
 fn count(rt: &impl Abort, lists: &Lists, counts: (usize, u32, u32)) {
     assert!(rt; lists.len() == counts.0 && lists.short() == counts.1 && lists.lone() == counts.2);
+}
+
+/// Whether the frames of a want take so many slots.
+fn are_sizes(want: &Want, sizes: &[u32]) -> bool {
+    match want.sizes.told() {
+        Told::Ones(count) => sizes.len() == count as usize && sizes.iter().all(|size| *size == 1),
+        Told::Each(all) => all == sizes,
+    }
 }
 
 /// Whether the i-th port that wants some is `to`, and wants these frames.
@@ -106,7 +115,7 @@ fn wants(
     is_dest(&lists.dest(i), to, places.len())
         && want.to == PortId(to)
         && want.places.as_slice() == places
-        && want.sizes.as_slice() == sizes
+        && are_sizes(&want, sizes)
 }
 
 #[test]

@@ -11,7 +11,7 @@ use nm_types::{LeaseId, PortId};
 use std::alloc::Global;
 use std::collections::VecDeque;
 use std::process::Abort;
-use vale_line::{Got, Lease, LeaseRoom, Line};
+use vale_line::{Got, Lease, LeaseRoom, Line, Sizes};
 
 /// A frame of three slots.
 const LONG: [u8; 5000] = [7; 5000];
@@ -41,6 +41,16 @@ fn line_of(rt: &impl Abort, alloc: Global, bufs: Vec<Buf>) -> Line
     }
 }
 
+/// These sizes, as a grant takes them.
+fn sizes_of(rt: &impl Abort, alloc: Global, sizes: &[u32]) -> Sizes
+    ensures { result ≡ sizes.now }
+{
+    match sizes.to_vec(alloc) {
+        Ok(sizes) => Sizes::own(sizes),
+        Err(_) => panic!(rt; "no memory"),
+    }
+}
+
 /// Grants what is wanted, to a lease that is not refused.
 fn grant(rt: &impl Abort, alloc: Global, line: &mut Line, id: u32, want: &[u32]) -> Lease
     requires new { is_there id (leases_of line.old.lots) ≡ false }
@@ -53,7 +63,8 @@ fn grant(rt: &impl Abort, alloc: Global, line: &mut Line, id: u32, want: &[u32])
     let Ok(room) = LeaseRoom::new(alloc, 8) else {
         panic!(rt; "no memory");
     };
-    match line.grant(LeaseId(id), PortId(4), room, want) {
+    let want = sizes_of(rt, alloc, want);
+    match line.grant(LeaseId(id), PortId(4), room, &want) {
         Some(lease) => lease,
         None => panic!(rt; "no frame fits"),
     }
@@ -69,7 +80,8 @@ fn refuse(rt: &impl Abort, alloc: Global, line: &mut Line, id: u32, want: &[u32]
     let Ok(room) = LeaseRoom::new(alloc, 8) else {
         panic!(rt; "no memory");
     };
-    if let Some(_lease) = line.grant(LeaseId(id), PortId(4), room, want) {
+    let want = sizes_of(rt, alloc, want);
+    if let Some(_lease) = line.grant(LeaseId(id), PortId(4), room, &want) {
         panic!(rt; "what does not fit is granted");
     }
 }

@@ -1,9 +1,10 @@
 -- What ports want of frames that all go to one of them alone.
-use Rattle.std.proofs.Common.{ℕ, suc, Bool, true, false, ◌≡◌, ◌+◌, ◌<◌, ◌≤◌, List, [], ◌∷◌, length, map, get_or, inl, inr, refl, sym, ◌∙◌, ap, arith}
-use Rattle.std.specs.Prelude.{All, IfSome, Option, Some, None, cond, count_by, filter, nat_lt}
+use Rattle.std.proofs.Common.{ℕ, zero, suc, Bool, true, false, ◌≡◌, ◌+◌, ◌<◌, ◌≤◌, List, [], ◌∷◌, length, map, get_or, replicate, inl, inr, refl, sym, ◌∙◌, ap, subst, arith}
+use Rattle.std.specs.Prelude.{All, IfNone, IfSome, Option, Some, None, cond, count_by, filter, nat_lt}
 use Rattle.std.specs.List.{list_any, range_with_len}
-use Rattle.std.proofs.lemmas.Bool.{cases_Bool, eqb-true, eqb-false, lt-ltb, ne_eqb}
-use Rattle.std.proofs.lemmas.List.Elements.{All-head, All-tail}
+use Rattle.std.proofs.lemmas.Bool.{both_ways, cases_Bool, eq-eqb, eqb-true, eqb-false, lt-ltb, ne_eqb}
+use Rattle.std.proofs.lemmas.List.{length-replicate}
+use Rattle.std.proofs.lemmas.List.Elements.{All-head, All-replicate, All-tail}
 use Rattle.std.proofs.lemmas.List.Sums.{sum_by-cons}
 use Rattle.nm_types.specs.declared.id.PortId.{PortId}
 use Rattle.vale_batch.specs.declared.looking.Destination.{Destination}
@@ -11,6 +12,7 @@ use Rattle.vale_batch.specs.declared.looking.Destination.TheVariants.{Short, Nob
 use Rattle.vale_batch.specs.declared.looking.Looked.{Looked}
 use Rattle.vale_batch.specs.declared.alone.Placed.{Placed}
 use Rattle.vale_batch.specs.Wants.{Wanted, Owned, every, flooded_to, goes_alone, is_flooded, is_flooded_at, is_lone, is_lone_destination, is_only, is_other, is_port, is_short_at, is_short_destination, own_at, picked, place_of, placed_at, port_number, size_of, slots_of, want_of, want_seen, wants_of, wants_some, IsRising}
+use Rattle.vale_batch.specs.Looking.{looked_one}
 use Rattle.vale_batch.proofs.Merging.{count-merged, want-own, wants-merged}
 
 abbrev GoesTo : PortId → Looked → Type 0
@@ -204,6 +206,49 @@ pub every-wanted : (port : PortId) (ports : List PortId) (all : List Looked) →
 every-wanted port ports all alone some rising there want is from =
     ap (λ (w : Wanted). w ∷ []) (is ∙ wants-every from port all)
     ∙ (sym (one-in from port ports all alone some rising there) ∙ wants-are from port ports all alone)
+
+-- the sizes of frames of one slot each
+
+abbrev ones_of : ℕ → List ℕ
+ones_of n = replicate n 1
+
+pub single-sizes : (all : List Looked) → All (λ (l : Looked). l.size ≡ 1) all → ones_of (length all) ≡ map size_of all
+single-sizes [] single = refl
+single-sizes (x ∷ xs) single =
+    let here : x.size ≡ 1 = All-head (λ (l : Looked). l.size ≡ 1) x xs single in
+    let rest = single-sizes xs (All-tail (λ (l : Looked). l.size ≡ 1) x xs single) in
+    ap (λ (n : ℕ). n ∷ ones_of (length xs)) (sym here) ∙ ap (λ (ns : List ℕ). x.size ∷ ns) rest
+
+pub alike-sizes : (to : Destination) (n : ℕ) → ones_of n ≡ map size_of (replicate n (looked_one to))
+alike-sizes to zero = refl
+alike-sizes to (suc n) = ap (λ (ns : List ℕ). 1 ∷ ns) (alike-sizes to n)
+
+pub ruleset singles = (single-sizes, alike-sizes)
+
+-- frames that go to one place go to one port alone, or to none
+
+pub alike-alone : (port : PortId) (n : ℕ) → All (λ (l : Looked). goes_alone port l ≡ true) (replicate n (looked_one (Only port)))
+alike-alone port n = All-replicate (λ (l : Looked). goes_alone port l ≡ true) n (looked_one (Only port)) (eq-eqb port.0 port.0 refl)
+
+pub alike-other : (to : Destination) (n : ℕ) → ((port : PortId) → is_only port to ≡ false) → (port : PortId) → 1 ≤ length (replicate n (looked_one to))
+    → All (λ (l : Looked). goes_alone port l ≡ true) (replicate n (looked_one to)) → ⊥
+alike-other to zero other port some alone = let none = length-replicate zero (looked_one to) in omega (arith, some, none)
+alike-other to (suc n) other port some alone =
+    both_ways (is_only port to) (other port) (All-head (λ (l : Looked). goes_alone port l ≡ true) (looked_one to) (replicate n (looked_one to)) alone)
+
+pub alike-some : (to : Destination) (n : ℕ) (r : Option PortId) → 0 < n → IfSome r (λ (port : PortId). 1 ≤ length (replicate n (looked_one to)))
+alike-some to n (Some port) more = let long = length-replicate n (looked_one to) in omega (arith, more, long)
+alike-some to n None more = tt
+
+pub alike-sole : (to : Destination) (n : ℕ) (r : Option PortId) → IfSome r (λ (port : PortId). to ≡ Only port)
+    → IfSome r (λ (port : PortId). All (λ (l : Looked). goes_alone port l ≡ true) (replicate n (looked_one to)))
+alike-sole to n (Some port) is = subst (λ (d : Destination). All (λ (l : Looked). goes_alone port l ≡ true) (replicate n (looked_one d))) (sym is) (alike-alone port n)
+alike-sole to n None is = tt
+
+pub alike-none : (to : Destination) (n : ℕ) (r : Option PortId) → IfNone r ((port : PortId) → is_only port to ≡ false)
+    → IfNone r ((port : PortId) → 1 ≤ length (replicate n (looked_one to)) → All (λ (l : Looked). goes_alone port l ≡ true) (replicate n (looked_one to)) → ⊥)
+alike-none to n (Some port) is = tt
+alike-none to n None is = alike-other to n is
 
 -- what the sole port tells of all frames
 

@@ -1,3 +1,4 @@
 pub mod Addresses
+pub mod Kept
 pub mod Looking
 pub mod Wants

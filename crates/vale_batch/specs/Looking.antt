@@ -1,7 +1,8 @@
 -- Where the frames of a batch go. Each frame is learned first and then looked up; the frames after it
 -- see what it taught.
-use Rattle.std.specs.Prelude.{ℕ, false, ◌≡◌, ◌==◌, if◌then◌else◌, List, [], ◌∷◌, length, fold, reverse, Option, Some, None}
+use Rattle.std.specs.Prelude.{ℕ, false, ◌≡◌, ◌==◌, ◌≤◌, if◌then◌else◌, List, [], ◌∷◌, length, fold, reverse, slice_get, All, Option, Some, None}
 use Rattle.nm_types.specs.Frames.{Frame}
+use Rattle.nm_types.specs.Limits.{buffer_bytes}
 use Rattle.nm_types.specs.declared.id.Mac.{Mac}
 use Rattle.nm_types.specs.declared.id.PortId.{PortId}
 use Rattle.nm_frag.specs.Parts.{slots_of_length}
@@ -50,6 +51,20 @@ pub record IsAlike (frame other : Frame) : Type 0 where
   pub to : destination_address frame ≡ destination_address other
   pub from : source_address frame ≡ source_address other
   pub mark : frame.no_learn ≡ other.no_learn
+
+-- a frame of one slot, as it was looked up
+abbrev pub looked_one : Destination → Looked
+looked_one to = record { destination = to; size = 1 }
+
+-- the frame takes one slot, and has the addresses and the mark of another one
+pub record IsOneAlike (other frame : Frame) : Type 0 where
+  pub alike : IsAlike frame other
+  pub one : length frame.bytes ≤ buffer_bytes
+
+-- some frames, each of one slot, with the addresses and the mark of the first
+pub record AreAlike (frames : List Frame) : Type 0 where
+  pub some : 1 ≤ length frames
+  pub each : (first : Frame) → slice_get frames 0 ≡ Some first → All (IsOneAlike first) frames
 
 -- the table before it was taught, from the last to the first
 abbrev pub untaught : Entries → Taught → Entries

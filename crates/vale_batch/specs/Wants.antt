@@ -20,7 +20,7 @@ pub record Wanted : Type 0 where
   pub sizes : List ℕ
 
 abbrev pub wanted : Want → Wanted
-wanted want = record { to = want.to; places = want.places.items; sizes = want.sizes.items }
+wanted want = record { to = want.to; places = want.places; sizes = want.sizes }
 
 abbrev pub is_other : PortId → PortId → Bool
 is_other from port = not (port.0 == from.0)
@@ -50,6 +50,10 @@ sizes_for from port looked = map size_of (filter (goes_to from port) looked)
 -- what a port wants of a batch
 abbrev pub want_at : PortId → List Looked → PortId → Wanted
 want_at from looked port = record { to = port; places = places_from from port 0 looked; sizes = sizes_for from port looked }
+
+-- a port's want of the frames at these places, of these sizes
+abbrev pub want_with : List ℕ → List ℕ → PortId → Wanted
+want_with places sizes port = record { to = port; places = places; sizes = sizes }
 
 abbrev pub wants_some : Wanted → Bool
 wants_some want = nat_lt 0 (length want.places)

@@ -22,7 +22,7 @@ pub(crate) struct Own {
 }
 
 /// How many ports stand before the place of one.
-#[tactic(auto, using(crate::proofs::Places::places))]
+#[tactic(auto, using(crate::proofs::Ranks::places))]
 fn rank_of(all: &Vec<Own>, to: PortId) -> usize
     requires { IsRising (numbers_of all.now.items) }
     ensures bound { result ≤ length all.now.items }
@@ -42,7 +42,7 @@ fn stands_at(all: &Vec<Own>, at: usize, to: PortId) -> bool
 }
 
 /// The place of a port. The ports rise.
-#[tactic(auto, using(crate::proofs::Places::places))]
+#[tactic(auto, using(crate::proofs::Ranks::places))]
 fn place_of(all: &Vec<Own>, to: PortId) -> Option<usize>
     requires { IsRising (numbers_of all.now.items) }
     ensures within { IfSome result (λ at. at < length all.now.items) }
@@ -175,7 +175,7 @@ pub(crate) fn owns_of(
     Ok(all)
 }
 
-fn is_flooded(looked: Looked) -> bool
+pub(crate) fn is_flooded(looked: Looked) -> bool
     ensures { result ≡ is_flooded looked }
 {
     match looked.destination {

@@ -7,6 +7,7 @@ ghost use Rattle.vale_batch.specs.Looking.{looked_up_batch, learned_of_batch, un
 ghost use Rattle.vale_batch.specs.Wants.{wants_of, is_other, is_lone, is_short_destination, is_lone_if, port_number, IsRising};
 
 use crate::alone::{flooded_of, owns_of};
+use crate::compared::Compared;
 use crate::lists::{Lists, keep_wanting};
 use crate::looking::{Destination, Looked};
 use crate::lookup::Lookup;
@@ -32,7 +33,7 @@ fn is_lone(others: bool, looked: &Looked) -> bool
     }
 }
 
-fn has_others(ports: &[PortId], from: PortId) -> bool
+pub(crate) fn has_others(ports: &[PortId], from: PortId) -> bool
     ensures { result ≡ list_any (is_other from) ports.now }
 {
     ports.iter().any(|port| *port != from)
@@ -107,7 +108,7 @@ pub fn classify(
     ensures wants { IfOk result (λ lists. lists.wants
         ≡ wants_of from (looked_up_batch from table.old batch.now) ports.now) }
 {
-    let lookup = Lookup::new(alloc, table, from, batch)?;
+    let lookup = Lookup::new(alloc, table, from, &Compared::new(batch))?;
     match lookup.lists(alloc, ports) {
         Ok(lists) => Ok(lookup.told(lists)),
         Err(fault) => {

@@ -4,6 +4,8 @@ ghost use Rattle.vale_batch.specs.Wants.{Classed, IsFew, wanted, dest_of, owned,
 
 use crate::alone::{Own, Placed};
 use crate::looking::{Taught, forget_taught};
+use crate::shares::Places;
+use nm_frag::Sizes;
 use nm_types::{NoMemory, PortId};
 use std::alloc::{AllocError, Global};
 use std::marker::Model;
@@ -14,9 +16,9 @@ use vale_learn::Table;
 pub struct Want {
     pub to: PortId,
     /// The places of the frames in the batch, rising from 0.
-    pub places: Vec<u32>,
+    pub places: Places,
     /// How many slots each of them takes.
-    pub sizes: Vec<u32>,
+    pub sizes: Sizes,
 }
 
 /// How many frames of a batch a port wants, at least 1.
@@ -74,23 +76,22 @@ fn next<'a>(
     }
 }
 
-/// Adds the frames of two rising lists to a want, in the order of the batch.
-fn merge(want: &mut Want, own: &[Placed], flooded: &[Placed])
-    requires places { vec_len want.old.places + length (merged own.now flooded.now)
-        ≤ vec_capacity want.old.places }
-    requires sizes { vec_len want.old.sizes + length (merged own.now flooded.now)
-        ≤ vec_capacity want.old.sizes }
-    ensures to { want.new.to ≡ want.old.to }
-    ensures places { want.new.places.items
-        ≡ want.old.places.items ++ map place_of (merged own.now flooded.now) }
-    ensures sizes { want.new.sizes.items
-        ≡ want.old.sizes.items ++ map slots_of (merged own.now flooded.now) }
+/// Adds the places and the sizes of the frames of two rising lists, in the order of the batch.
+fn merge(places: &mut Vec<u32>, sizes: &mut Vec<u32>, own: &[Placed], flooded: &[Placed])
+    requires places { vec_len places.old + length (merged own.now flooded.now)
+        ≤ vec_capacity places.old }
+    requires sizes { vec_len sizes.old + length (merged own.now flooded.now)
+        ≤ vec_capacity sizes.old }
+    ensures places { places.new.items
+        ≡ places.old.items ++ map place_of (merged own.now flooded.now) }
+    ensures sizes { sizes.new.items
+        ≡ sizes.old.items ++ map slots_of (merged own.now flooded.now) }
 {
     let mut own = own;
     let mut flooded = flooded;
     while let Some((placed, rest, others)) = next(own, flooded) {
-        want.places.push_reserved(placed.place);
-        want.sizes.push_reserved(placed.size);
+        places.push_reserved(placed.place);
+        sizes.push_reserved(placed.size);
         own = rest;
         flooded = others;
     }
@@ -101,16 +102,17 @@ fn merge(want: &mut Want, own: &[Placed], flooded: &[Placed])
 fn want_just(alloc: Global, to: PortId, frames: &[Placed]) -> Result<Want, AllocError>
     ensures { IfOk result (λ want. wanted want ≡ want_of to [] frames.now) }
 {
-    let mut want = Want {
-        to,
-        places: Vec::with_capacity(alloc, frames.len())?,
-        sizes: Vec::with_capacity(alloc, frames.len())?,
-    };
+    let mut places = Vec::with_capacity(alloc, frames.len())?;
+    let mut sizes = Vec::with_capacity(alloc, frames.len())?;
     for placed in frames {
-        want.places.push_reserved(placed.place);
-        want.sizes.push_reserved(placed.size);
+        places.push_reserved(placed.place);
+        sizes.push_reserved(placed.size);
     }
-    Ok(want)
+    Ok(Want {
+        to,
+        places: Places::own(places),
+        sizes: Sizes::own(sizes),
+    })
 }
 
 /// What a port wants of its own frames and the flooded ones.
@@ -131,13 +133,14 @@ fn want_of(
         return want_just(alloc, to, flooded);
     }
     let count = own.len() + flooded.len();
-    let mut want = Want {
+    let mut places = Vec::with_capacity(alloc, count)?;
+    let mut sizes = Vec::with_capacity(alloc, count)?;
+    merge(&mut places, &mut sizes, own, flooded);
+    Ok(Want {
         to,
-        places: Vec::with_capacity(alloc, count)?,
-        sizes: Vec::with_capacity(alloc, count)?,
-    };
-    merge(&mut want, own, flooded);
-    Ok(want)
+        places: Places::own(places),
+        sizes: Sizes::own(sizes),
+    })
 }
 
 /// The flooded frames that go to a port.

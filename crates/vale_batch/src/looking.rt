@@ -1,12 +1,12 @@
-ghost use Rattle.std.specs.Prelude.{◌≡◌, ◌≤◌, [], ◌++◌, All, IsTrue, IfOk, OnOk, length, vec_capacity};
+ghost use Rattle.std.specs.Prelude.{◌≡◌, ◌≤◌, [], ◌++◌, All, IsTrue, IfOk, OnOk, length, replicate, vec_capacity};
 ghost use Rattle.vale_learn.specs.AddressTable.{learned, port_of_address};
 ghost use Rattle.vale_batch.specs.Addresses.{is_learnable, source_address};
-ghost use Rattle.vale_batch.specs.Looking.{destination_found, destination_of, learned_from, looked_up, looked_up_batch, learned_of_batch, untaught_all, IsAlike};
+ghost use Rattle.vale_batch.specs.Looking.{destination_found, destination_of, learned_from, looked_up, looked_up_batch, learned_of_batch, looked_one, untaught_all, AreAlike, IsAlike, IsOneAlike};
 ghost use Rattle.nm_types.specs.Sendable.{IsFrame};
 
 use crate::addresses::{HEADER_BYTES, is_group, mac_at, word_at};
 use nm_frag::slots;
-use nm_types::{Batch, Mac, PortId};
+use nm_types::{BUFFER_BYTES, Batch, Mac, PortId};
 use std::alloc::AllocError;
 use vale_learn::{Station, Table};
 
@@ -147,6 +147,61 @@ fn follow(
     }
     learn(table, taughts, from, bytes, no_learn)?;
     Ok(destination_of(table, from, bytes, no_learn))
+}
+
+/// Whether a frame takes one slot and has the addresses and the mark of another one.
+fn is_one_alike(bytes: &[u8], no_learn: bool, other: &[u8], other_no_learn: bool) -> bool
+    ensures { IsTrue result
+        → IsOneAlike (record { bytes = other.now; no_learn = other_no_learn })
+        (record { bytes = bytes.now; no_learn = no_learn }) }
+{
+    bytes.len() <= BUFFER_BYTES && is_alike(bytes, no_learn, other, other_no_learn)
+}
+
+/// Whether each frame of a batch takes one slot and has the addresses and the mark of another one.
+#[tactic(auto, using(crate::proofs::Alike::more))]
+fn all_alike(batch: &Batch, other: &[u8], other_no_learn: bool) -> bool
+    ensures { IsTrue result
+        → All (IsOneAlike (record { bytes = other.now; no_learn = other_no_learn })) batch.now }
+{
+    for i in 0..batch.len() {
+        let (bytes, no_learn) = batch.get(i);
+        if !is_one_alike(bytes, no_learn, other, other_no_learn) {
+            return false;
+        }
+    }
+    true
+}
+
+/// Whether a batch has frames, each of which takes one slot and has the addresses and the mark of
+/// the first.
+pub(crate) fn are_alike(batch: &Batch) -> bool
+    ensures { IsTrue result → AreAlike batch.now }
+{
+    if batch.len() == 0 {
+        return false;
+    }
+    let (first, no_learn) = batch.get(0);
+    all_alike(batch, first, no_learn)
+}
+
+/// Learns the source of frames that are alike, and looks up where all of them go.
+pub(crate) fn look_up_alike(
+    table: &mut Table,
+    taughts: &mut Vec<Taught>,
+    from: PortId,
+    batch: &Batch,
+) -> Result<Destination, AllocError>
+    requires { AreAlike batch.now }
+    ensures all { IfOk result (λ to.
+        replicate (length batch.now) (looked_one to) ≡ looked_up_batch from table.old batch.now) }
+    ensures table { OnOk result (table.new ≡ learned_of_batch from table.old batch.now) }
+    ensures undo { untaught_all table.new taughts.new.items
+        ≡ untaught_all table.old taughts.old.items }
+{
+    let (first, marked) = batch.get(0);
+    learn(table, taughts, from, first, marked)?;
+    Ok(destination_of(table, from, first, marked))
 }
 
 /// Takes back what was learned.

@@ -1,17 +1,21 @@
 //! A batch whose frames were looked up, before any port is listed.
-ghost use Rattle.std.specs.Prelude.{List, ◌≡◌, ◌<◌, ◌≤◌, ◌^◌, All, length, map, true, count_by, IfOk, IfSome, IfNone, OnOk, OnErr};
+ghost use Rattle.std.specs.Prelude.{List, ◌≡◌, ◌<◌, ◌≤◌, ◌^◌, [], All, length, map, true, count_by, IsTrue, IfOk, IfSome, IfNone, OnOk, OnErr};
 ghost use Rattle.std.specs.List.{list_any};
+ghost use Rattle.vale_batch.specs.Kept.{looked_kept};
 ghost use Rattle.vale_batch.specs.Looking.{looked_up_batch, learned_of_batch, untaught_all};
 ghost use Rattle.nm_types.specs.declared.id.PortId.{PortId};
 ghost use Rattle.nm_types.specs.Sendable.{IsFrame};
-ghost use Rattle.vale_batch.specs.Wants.{goes_alone, is_lone, is_port, is_short_destination, port_number, wanted, wants_of, IsRising};
+ghost use Rattle.vale_batch.specs.Wants.{goes_alone, is_flooded, is_lone, is_port, is_short_destination, port_number, size_of, wanted, wants_of, IsRising};
 
-use crate::classifying::lists_of;
+use crate::compared::Compared;
+use crate::destinations::Destinations;
 use crate::lists::{Lists, Want};
-use crate::looking::{Looked, Taught, forget_taught, look_up};
-use crate::sole::{sole_port, wants_of_sole};
-use nm_types::{Batch, NoMemory, PortId};
-use std::alloc::Global;
+use crate::looking::{Taught, forget_taught, look_up, look_up_alike};
+use crate::shares::Places;
+use crate::sole::{one_want, places};
+use nm_frag::Sizes;
+use nm_types::{NoMemory, PortId};
+use std::alloc::{AllocError, Global};
 use std::marker::Model;
 use vale_learn::Table;
 
@@ -19,7 +23,7 @@ use vale_learn::Table;
 #[derive(Debug, Drop)]
 pub struct Lookup {
     from: PortId,
-    all: Vec<Looked>,
+    all: Destinations,
     taughts: Vec<Taught>,
 }
 
@@ -28,11 +32,37 @@ impl Model for Lookup {
 
     ghost Value = { LookedUp };
 
+    ghost use Rattle.vale_batch.specs.Kept.{looked_kept};
+
     ghost view = { λ l. record {
       from = l.from;
-      all = l.all.items;
+      all = looked_kept l.all;
       taughts = l.taughts.items;
     } };
+}
+
+/// Learns the sources of a batch and looks up where its frames go. Frames that are alike teach the
+/// table once, and are looked up once. Want of memory ends it at some frame.
+fn look_up_all(
+    alloc: Global,
+    table: &mut Table,
+    taughts: &mut Vec<Taught>,
+    from: PortId,
+    batch: &Compared,
+) -> Result<Destinations, AllocError>
+    requires frames { All IsFrame batch.now }
+    requires none { taughts.old.items ≡ [] }
+    ensures all { IfOk result (λ all. looked_kept all ≡ looked_up_batch from table.old batch.now) }
+    ensures table { OnOk result (table.new ≡ learned_of_batch from table.old batch.now) }
+    ensures undo { untaught_all table.new taughts.new.items ≡ table.old }
+{
+    if batch.are_alike() {
+        let to = look_up_alike(table, taughts, from, batch.batch())?;
+        return Ok(Destinations::Alike(to, batch.len()));
+    }
+    let mut all = Vec::with_capacity(alloc, batch.len())?;
+    look_up(table, taughts, &mut all, from, batch.batch())?;
+    Ok(Destinations::Each(all))
 }
 
 impl Lookup {
@@ -42,7 +72,7 @@ impl Lookup {
         alloc: Global,
         table: &mut Table,
         from: PortId,
-        batch: &Batch,
+        batch: &Compared,
     ) -> Result<Lookup, NoMemory>
         requires { All IsFrame batch.now }
         ensures from { IfOk result (λ lookup. lookup.from ≡ from) }
@@ -54,9 +84,8 @@ impl Lookup {
             untaught_all table.new lookup.taughts ≡ table.old) }
     {
         let mut taughts = Vec::new(alloc);
-        let mut all = Vec::with_capacity(alloc, batch.len())?;
-        match look_up(table, &mut taughts, &mut all, from, batch) {
-            Ok(()) => Ok(Lookup { from, all, taughts }),
+        match look_up_all(alloc, table, &mut taughts, from, batch) {
+            Ok(all) => Ok(Lookup { from, all, taughts }),
             Err(_) => {
                 forget_taught(table, &mut taughts);
                 Err(NoMemory)
@@ -76,7 +105,7 @@ impl Lookup {
         ensures lone { IfSome result (λ _. (ports : List PortId)
             → 0 ≡ count_by (is_lone self.now.from ports) self.now.all) }
     {
-        sole_port(&self.all)
+        self.all.sole()
     }
 
     /// The lists of the frames for a switch with these open ports, without what the frames taught.
@@ -90,7 +119,38 @@ impl Lookup {
         ensures wants { IfOk result (λ lists.
             lists.wants ≡ wants_of self.now.from self.now.all ports.now) }
     {
-        Ok(lists_of(alloc, self.from, ports, &self.all)?)
+        Ok(self.all.lists(alloc, self.from, ports)?)
+    }
+
+    /// The number of frames.
+    pub(crate) fn len(&self) -> usize
+        ensures { result ≡ length self.now.all }
+    {
+        self.all.len()
+    }
+
+    /// How many slots each of the frames takes.
+    pub(crate) fn sizes(&self, alloc: Global) -> Result<Sizes, AllocError>
+        requires { length self.now.all < 2 ^ 32 }
+        ensures { IfOk result (λ sizes. sizes ≡ map size_of self.now.all) }
+    {
+        self.all.sizes(alloc)
+    }
+
+    /// The port that sent the frames.
+    pub(crate) fn from(&self) -> PortId
+        ensures { result ≡ self.now.from }
+    {
+        self.from
+    }
+
+    /// Whether there are frames, and all of them go to all ports but the one that sent them.
+    pub fn is_flood(&self) -> bool
+        ensures some { IsTrue result → 1 ≤ length self.now.all }
+        ensures all { IsTrue result
+            → All (λ looked. is_flooded looked ≡ true) self.now.all }
+    {
+        self.all.is_flood()
     }
 
     /// What the ports want where all frames go to this port, each to it alone: it wants all, if
@@ -108,7 +168,19 @@ impl Lookup {
             → IsRising (map port_number ports) → list_any (is_port sole) ports ≡ there
             → map wanted wants.items ≡ wants_of self.now.from self.now.all ports) }
     {
-        Ok(wants_of_sole(alloc, sole, there, &self.all)?)
+        if !there {
+            return Ok(Vec::new(alloc));
+        }
+        let places = Places::own(places(alloc, self.len() as u32)?);
+        let sizes = self.sizes(alloc)?;
+        Ok(one_want(
+            alloc,
+            Want {
+                to: sole,
+                places,
+                sizes,
+            },
+        )?)
     }
 
     /// Gives the lists what the frames taught.

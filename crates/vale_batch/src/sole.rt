@@ -1,12 +1,15 @@
 //! Batches whose frames all go to one port alone: nothing is listed for the other ports, and no
 //! frame is looked for among flooded, short and lone ones.
-ghost use Rattle.std.specs.Prelude.{List, ◌≡◌, ◌<◌, ◌≤◌, ◌^◌, [], All, length, map, true, count_by, IsTrue, IfOk, IfSome, IfNone};
-ghost use Rattle.std.specs.List.{list_any, range_with_len};
+ghost use Rattle.std.specs.Prelude.{◌≡◌, ◌<◌, ◌≤◌, ◌^◌, ◌∷◌, [], All, length, map, replicate, true, false, IsTrue, IfOk, IfSome, IfNone};
+ghost use Rattle.std.specs.List.{range_with_len};
 ghost use Rattle.nm_types.specs.declared.id.PortId.{PortId};
-ghost use Rattle.vale_batch.specs.Wants.{goes_alone, is_port, port_number, size_of, wanted, wants_of, IsRising};
+ghost use Rattle.vale_batch.specs.declared.looking.Destination.TheVariants as destinations;
+ghost use Rattle.vale_batch.specs.Looking.{looked_one};
+ghost use Rattle.vale_batch.specs.Wants.{goes_alone, is_only, size_of};
 
 use crate::lists::Want;
 use crate::looking::{Destination, Looked};
+use nm_frag::Sizes;
 use nm_types::PortId;
 use std::alloc::{AllocError, Global};
 
@@ -47,8 +50,35 @@ pub(crate) fn sole_port(all: &[Looked]) -> Option<PortId>
     }
 }
 
+/// The port to which alone a frame goes.
+fn only_port(to: Destination) -> Option<PortId>
+    ensures some { IfSome result (λ port. to ≡ destinations.Only port) }
+    ensures none { IfNone result ((port : PortId) → is_only port to ≡ false) }
+{
+    match to {
+        Destination::Short => None,
+        Destination::Nobody => None,
+        Destination::Only(port) => Some(port),
+        Destination::Others => None,
+    }
+}
+
+/// The port to which so many frames of one slot each go, each to it alone, if they go to one place.
+pub(crate) fn sole_alike(to: Destination, count: usize) -> Option<PortId>
+    ensures some { IfSome result (λ port. 1 ≤ length (replicate count (looked_one to))) }
+    ensures alone { IfSome result (λ port.
+        All (λ looked. goes_alone port looked ≡ true) (replicate count (looked_one to))) }
+    ensures none { IfNone result ((port : PortId) → 1 ≤ length (replicate count (looked_one to))
+        → All (λ looked. goes_alone port looked ≡ true) (replicate count (looked_one to)) → ⊥) }
+{
+    if count == 0 {
+        return None;
+    }
+    only_port(to)
+}
+
 /// The places of so many frames.
-fn places(alloc: Global, count: u32) -> Result<Vec<u32>, AllocError>
+pub(crate) fn places(alloc: Global, count: u32) -> Result<Vec<u32>, AllocError>
     ensures { IfOk result (λ all. all.items ≡ range_with_len 0 count) }
 {
     let mut all = Vec::with_capacity(alloc, count as usize)?;
@@ -69,41 +99,29 @@ fn sizes(alloc: Global, all: &[Looked]) -> Result<Vec<u32>, AllocError>
     Ok(sizes)
 }
 
-/// What a port wants that gets all of these frames.
-fn sole_want(alloc: Global, port: PortId, all: &[Looked]) -> Result<Want, AllocError>
-    requires { length all.now < 2 ^ 32 }
-    ensures to { IfOk result (λ want. want.to ≡ port) }
-    ensures places { IfOk result (λ want.
-        want.places.items ≡ range_with_len 0 (length all.now)) }
-    ensures sizes { IfOk result (λ want. want.sizes.items ≡ map size_of all.now) }
+/// Whether each of the frames takes one slot.
+fn are_single(all: &[Looked]) -> bool
+    ensures { IsTrue result → All (λ looked. looked.size ≡ 1) all.now }
 {
-    let places = places(alloc, all.len() as u32)?;
-    let sizes = sizes(alloc, all)?;
-    Ok(Want {
-        to: port,
-        places,
-        sizes,
-    })
+    all.iter().all(|looked| looked.size == 1)
 }
 
-/// What ports want of frames that all go to one port alone, which is among them or is not.
-pub(crate) fn wants_of_sole(
-    alloc: Global,
-    port: PortId,
-    there: bool,
-    all: &[Looked],
-) -> Result<Vec<Want>, AllocError>
-    requires few { length all.now < 2 ^ 32 }
-    requires some { 1 ≤ length all.now }
-    requires alone { All (λ looked. goes_alone port looked ≡ true) all.now }
-    ensures { IfOk result (λ wants. (from : PortId) (ports : List PortId)
-        → IsRising (map port_number ports) → list_any (is_port port) ports ≡ there
-        → map wanted wants.items ≡ wants_of from all.now ports) }
+/// How many slots each of the frames takes, with no list of them where each takes one.
+#[tactic(auto, using(crate::proofs::ToOne::singles))]
+pub(crate) fn sizes_of(alloc: Global, all: &[Looked]) -> Result<Sizes, AllocError>
+    requires { length all.now < 2 ^ 32 }
+    ensures { IfOk result (λ sizes. sizes ≡ map size_of all.now) }
 {
-    if !there {
-        return Ok(Vec::new(alloc));
+    if are_single(all) {
+        return Ok(Sizes::ones(all.len() as u32));
     }
-    let want = sole_want(alloc, port, all)?;
+    Sizes::shared(alloc, sizes(alloc, all)?)
+}
+
+/// A list of one want.
+pub(crate) fn one_want(alloc: Global, want: Want) -> Result<Vec<Want>, AllocError>
+    ensures { IfOk result (λ wants. wants.items ≡ want ∷ []) }
+{
     let mut wants = Vec::with_capacity(alloc, 1)?;
     wants.push_reserved(want);
     Ok(wants)

@@ -9,6 +9,7 @@ use crate::book::Book;
 use crate::noting::session_at;
 use crate::shutting::name_at;
 use nm_types::{Batch, PortId, Side, StepFault};
+use vale_batch::Compared;
 use vale_port::offered_port;
 use vale_steps::offers::Offers;
 use vale_steps::sending::{count, send};
@@ -21,6 +22,21 @@ impl Book {
     ///
     /// A full record and want of memory change nothing, and teach the switch nothing.
     pub fn send(&mut self, port: PortId, batch: &Batch) -> Result<Offers, StepFault>
+        requires { IsEnabled (standing self.old) (asks.Send port batch.now) }
+        ensures made { OnOk result (self.new ≡ after_ask self.old (asks.Send port batch.now)) }
+        ensures said { IfOk result (λ offers. option_map reply_of
+            (step (standing self.old) (asks.Send port batch.now))
+            ≡ Some (replies.Offered offers.short offers.lone (dests_wanted offers.wants))) }
+        ensures offers { IfOk result (IsSent self.new batch.now) }
+        ensures room { OnOk result (HasRoom self.old (asks.Send port batch.now)) }
+        ensures full { IfErr result (IsRefusal self.old (asks.Send port batch.now)) }
+        ensures err { OnErr result (self.new ≡ self.old) }
+    {
+        self.send_compared(port, &Compared::new(batch))
+    }
+
+    /// `send` of a batch whose frames were compared before.
+    pub fn send_compared(&mut self, port: PortId, batch: &Compared) -> Result<Offers, StepFault>
         requires { IsEnabled (standing self.old) (asks.Send port batch.now) }
         ensures made { OnOk result (self.new ≡ after_ask self.old (asks.Send port batch.now)) }
         ensures said { IfOk result (λ offers. option_map reply_of

@@ -13,6 +13,7 @@ use crate::fabric::Fabric;
 use crate::kept::Pass;
 use nm_types::{Batch, PortId, StepFault};
 use std::sync::Wait;
+use vale_batch::Compared;
 use vale_book::{Granted, Offers};
 use vale_line::Lease;
 
@@ -40,8 +41,33 @@ impl Fabric {
         ensures full { IfErr result (RefusesIn self.now pass.old pass.new
             (asks.Send port batch.now)) }
     {
+        self.send_compared(rt, pass, port, &Compared::new(batch))
+    }
+
+    /// `send` of a batch whose frames were compared before the turn.
+    fn send_compared<R: Wait>(
+        &self,
+        rt: &R,
+        pass: &mut Pass,
+        port: PortId,
+        batch: &Compared,
+    ) -> Result<Offers, StepFault>
+        requires pass { IsPassIn self.now pass.old }
+        requires may { MayIn self.now pass.old (asks.Send port batch.now) }
+        ensures pass { IsPassIn self.now pass.new }
+        ensures made { IfOk result (λ offers. AnswersIn self.now pass.old pass.new
+            (asks.Send port batch.now)
+            (replies.Offered offers.short offers.lone (dests_wanted offers.wants))) }
+        ensures offers { IfOk result (IsSent (seen_by self.now pass.new) batch.now) }
+        ensures speaks { IfOk result (λ offers. 1 ≤ length offers.wants
+            → Stands offers.session (knowing pass.new).mine) }
+        ensures hand { IfOk result (λ offers. 1 ≤ length offers.wants
+            → IsAtHand (fixed_in self.now) (knowing pass.new) offers (bytes_of batch.now)) }
+        ensures full { IfErr result (RefusesIn self.now pass.old pass.new
+            (asks.Send port batch.now)) }
+    {
         let mut book = self.take(rt, pass);
-        let sent = book.send(port, batch);
+        let sent = book.send_compared(port, batch);
         self.give(pass, book, sent.is_ok());
         sent
     }
@@ -72,7 +98,7 @@ impl Fabric {
         ensures fills { IfSome result.lease (λ lease. (frames : List Frame)
             → StandOf (standing (seen_by self.now pass.old)) offers.old frames
             → IsHeldFor (seen_by self.now pass.new) offers.old.session lease (bytes_of frames)
-            (take result.given result.want.places.items)) }
+            (take result.given result.want.places)) }
     {
         let mut book = self.take(rt, pass);
         let granted = book.grant(offers);

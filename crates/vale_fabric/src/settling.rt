@@ -121,7 +121,7 @@ impl Fabric {
             want,
             lease,
         } = self.grant(rt, pass, offers);
-        let places = &want.places[..given as usize];
+        let places = &want.places.as_slice()[..given as usize];
         self.complete(rt, pass, gate, user, lease, frames, places);
         Shares { given, full, gone }
     }

@@ -1,12 +1,12 @@
 -- Frames written into the buffers of a lease.
 use Rattle.std.proofs.Common.{ℕ, zero, suc, ◌≡◌, ◌+◌, ◌<◌, ◌≤◌, List, [], ◌∷◌, ◌++◌, length, take, drop, map, get_or, slice_set, inl, inr, refl, sym, ◌∙◌, ap, arith}
 use Rattle.std.specs.Prelude.{All, min, nat_le, sum}
-use Rattle.vale_line.proofs.FittingLemmas.{sum-cons}
+use Rattle.vale_line.proofs.FittingLemmas.{length-ones, ones_of, sum-cons, sum-ones}
 use Rattle.std.proofs.Math.Seq.{take-append-add, drop-append-add}
 use Rattle.std.proofs.lemmas.Bool.{cases_Bool, leb-true, leb-false}
 use Rattle.nm_frag.proofs.PartLemmas.{length-parts}
-use Rattle.std.proofs.lemmas.List.{length-append, length-drop, drop-drop, drop-map, length-map, length-take-le, take_all, drop_all}
-use Rattle.std.proofs.lemmas.List.Elements.{All-head, All-tail}
+use Rattle.std.proofs.lemmas.List.{length-append, length-drop, take-replicate, drop-drop, drop-map, length-map, length-take-le, take_all, drop_all}
+use Rattle.std.proofs.lemmas.List.Elements.{All-head, All-tail, All-replicate}
 use Rattle.nm_region.specs.Buffers.{Buffer}
 use Rattle.nm_frag.specs.Parts.{slots_of_length, first_parts, parts_of}
 use Rattle.vale_line.specs.declared.got.Got.{Got}
@@ -176,6 +176,32 @@ pub blank-sizes : (ns : List ℕ) (gots : List Got) → All IsFrameSize ns → s
 blank-sizes ns gots all total many blanks =
     let long = length-map gots buffer_of in
     ap sizes_in blanks ∙ blanks-tell ns (buffers_of gots) all (omega (arith, total, long)) (omega (arith, many, long))
+
+-- buffers with no frames tell of frames of one slot each
+
+all-ones : (n : ℕ) → All IsFrameSize (ones_of n)
+all-ones n = All-replicate IsFrameSize n 1 (omega arith, omega arith)
+
+pub blank-ones : (gots : List Got) → gots ≡ map blank (buffers_of gots) → sizes_in gots ≡ ones_of (length gots)
+blank-ones gots blanks =
+    let n = length gots in
+    let many = length-ones n in
+    blank-sizes (ones_of n) gots (all-ones n) (sum-ones n) (omega (arith, many)) blanks
+
+-- the first of sizes of one are as many as their sum
+pub ones-first : (frames count : ℕ) (want : List ℕ) (gots : List Got) → ones_of count ≡ want → frames ≤ length want → sum (take frames want) ≡ length gots
+    → ones_of (length gots) ≡ take frames want
+ones-first frames count want gots is within total =
+    let long : length want ≡ count = ap length (sym is) ∙ length-ones count in
+    let taken : take frames want ≡ ones_of frames = ap (take frames) (sym is) ∙ take-replicate frames count 1 (omega (arith, within, long)) in
+    let all : length gots ≡ frames = sym total ∙ (ap sum taken ∙ sum-ones frames) in
+    ap ones_of all ∙ sym taken
+
+pub ruleset blanks = (blank-ones)
+
+pub ruleset ones = (length-ones, sum-ones)
+
+pub ruleset told = (ones-first)
 
 pub ruleset marks = (blank-sizes, ones-most)
 

@@ -1,7 +1,9 @@
 -- The longest prefix of sizes that fits.
-use Rattle.std.proofs.Common.{ℕ, zero, suc, ◌≡◌, ◌+◌, ◌-◌, ◌≤◌, List, [], ◌∷◌, ◌++◌, length, take, drop, Some, None, inl, inr, refl, ◌∙◌, ap, arith}
-use Rattle.std.specs.Prelude.{nat_le, sum, All}
-use Rattle.std.proofs.lemmas.Bool.{cases_Bool, leb-true}
+use Rattle.std.proofs.Common.{ℕ, zero, suc, ◌≡◌, ◌+◌, ◌-◌, ◌<◌, ◌≤◌, List, [], ◌∷◌, ◌++◌, length, take, drop, Some, None, inl, inr, refl, sym, ◌∙◌, ap, arith}
+use Rattle.std.specs.Prelude.{nat_le, min, replicate, sum, All}
+use Rattle.std.proofs.lemmas.Bool.{cases_Bool, leb-true, leb-false}
+use Rattle.std.proofs.lemmas.List.{length-replicate, take-replicate}
+use Rattle.std.proofs.lemmas.List.Folds.{sum_by-replicate}
 use Rattle.std.proofs.lemmas.List.Elements.{All-head, All-tail}
 use Rattle.std.proofs.lemmas.List.Sums.{sum_by-cons, sum_by_push}
 use Rattle.vale_line.specs.Fitting.{IsFrameSize, fitting_sizes, first_fitting}
@@ -93,5 +95,40 @@ fitting-count room (s ∷ ss) all = elim (cases_Bool (nat_le s room)) [
       rw here (omega (arith, some, rest, whole))
   | inr other ↦ rw other (omega arith)
 ]
+
+-- sizes of one
+
+abbrev pub ones_of : ℕ → List ℕ
+ones_of n = replicate n 1
+
+pub length-ones : (n : ℕ) → length (ones_of n) ≡ n
+length-ones n = (let one : ℕ = 1 in length-replicate n one)
+
+pub sum-ones : (n : ℕ) → sum (ones_of n) ≡ n
+sum-ones n = (let all = sum_by-replicate (λ (k : ℕ). k) n 1 in omega (arith, all))
+
+fitting-ones : (n room : ℕ) → fitting_sizes room (ones_of n) ≡ ones_of (min n room)
+fitting-ones zero room = (let none : min 0 room ≡ 0 = omega arith in ap ones_of (sym none))
+fitting-ones (suc n) room = elim (cases_Bool (nat_le 1 room)) [
+  | inl here ↦
+      let within : 1 ≤ room = leb-true 1 room here in
+      let rest = fitting-ones n (room - 1) in
+      let least : min (suc n) room ≡ suc (min n (room - 1)) = omega (arith, within) in
+      rw here (ap (λ (ns : List ℕ). 1 ∷ ns) rest ∙ ap ones_of (sym least))
+  | inr other ↦
+      let less : room < 1 = leb-false 1 room other in
+      let none : min (suc n) room ≡ 0 = omega (arith, less) in
+      rw other (ap ones_of (sym none))
+]
+
+pub ones-taken : (n room : ℕ) → take (min n room) (ones_of n) ≡ fitting_sizes room (ones_of n)
+ones-taken n room = take-replicate (min n room) n 1 (omega arith) ∙ sym (fitting-ones n room)
+
+pub ones-fit : (n room : ℕ) → sum (fitting_sizes room (ones_of n)) ≡ min n room
+ones-fit n room = ap sum (fitting-ones n room) ∙ sum-ones (min n room)
+
+pub ruleset ones = (ones-taken, ones-fit)
+
+pub ruleset told = (length-ones)
 
 pub ruleset fitting = (none-fits, fitting-sum, fitting-total, fitting-count)

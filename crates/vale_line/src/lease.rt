@@ -1,4 +1,4 @@
-ghost use Rattle.std.specs.Prelude.{ℕ, ◌≡◌, ◌≤◌, ◌<◌, ◌+◌, [], ◌∷◌, ◌++◌, All, length, map, take, drop, sum, true, false, IfOk, vec_capacity};
+ghost use Rattle.std.specs.Prelude.{ℕ, ◌≡◌, ◌≤◌, ◌<◌, ◌+◌, [], ◌∷◌, ◌++◌, All, length, map, replicate, take, drop, sum, true, false, IfOk, vec_capacity};
 ghost use Rattle.nm_types.specs.Limits.{buffer_bytes, most_frame_bytes, most_ring};
 ghost use Rattle.nm_frag.specs.Parts.{slots_of_length, parts_of, cut_frame};
 ghost use Rattle.vale_line.specs.Fitting.{IsFrameSize};
@@ -7,7 +7,7 @@ ghost use Rattle.vale_line.specs.Stored.{lease_state, IsStoredLease};
 ghost use Rattle.vale_line.specs.Leased.{Leased, contents, count_of, buffer_count, is_next, next_of, sizes_in, with_frame};
 
 use crate::got::Got;
-use nm_frag::{MAX_FRAME_BYTES, slots};
+use nm_frag::{MAX_FRAME_BYTES, Sizes, Told, slots};
 use nm_types::{BUFFER_BYTES, LeaseId, NoMemory, PortId};
 use std::alloc::Global;
 use std::marker::Model;
@@ -82,6 +82,17 @@ fn mark_blank(gots: &mut Vec<Got>, sizes: &[u32])
     }
 }
 
+/// The number of buffers with no frames, which tell of as many frames of one slot each.
+#[tactic(auto, using(crate::proofs::Filling::blanks))]
+fn count_blank(gots: &[Got]) -> u32
+    requires few { length gots.now ≤ most_ring }
+    requires blank { gots.now ≡ map blank (buffers_of gots.now) }
+    ensures count { result ≡ length gots.now }
+    ensures sizes { sizes_in gots.now ≡ replicate (length gots.now) 1 }
+{
+    gots.len() as u32
+}
+
 /// Copies a frame of one part into the buffer at `at`.
 fn fill_first(gots: &mut Vec<Got>, at: usize, bytes: &[u8])
     requires frame { length bytes.now ≤ buffer_bytes }
@@ -145,9 +156,33 @@ impl Model for Lease {
 }
 
 impl Lease {
+    /// A lease of these buffers, none of which has a frame, for as many frames of one slot each.
+    #[tactic(auto, using(crate::proofs::Filling::ones))]
+    fn of_ones(id: LeaseId, to: PortId, gots: Vec<Got>) -> Lease
+        requires few { length gots.items ≤ most_ring }
+        requires blank { gots.items ≡ map blank (buffers_of gots.items) }
+        ensures { result ≡ record {
+          id = id.0;
+          to = to.0;
+          filled = [];
+          sizes = replicate (length gots.items) 1;
+          empty = buffers_of gots.items;
+        } }
+    {
+        let count = count_blank(&gots);
+        Lease {
+            id,
+            to,
+            gots,
+            filled: 0,
+            count,
+            frames: 0,
+        }
+    }
+
     /// A lease of these buffers, none of which has a frame, for frames of these sizes in slots.
     #[tactic(auto, using(crate::proofs::Filling::filling))]
-    pub(crate) fn new(id: LeaseId, to: PortId, mut gots: Vec<Got>, sizes: &[u32]) -> Lease
+    fn of_each(id: LeaseId, to: PortId, mut gots: Vec<Got>, sizes: &[u32]) -> Lease
         requires few { length gots.items ≤ most_ring }
         requires few_frames { length sizes.now ≤ most_ring }
         requires blank { gots.items ≡ map blank (buffers_of gots.items) }
@@ -169,6 +204,30 @@ impl Lease {
             filled: 0,
             count: sizes.len() as u32,
             frames: 0,
+        }
+    }
+
+    /// A lease of these buffers, none of which has a frame, for the first of some frames that take
+    /// so many slots.
+    #[tactic(auto, using(crate::proofs::Filling::told))]
+    pub(crate) fn new(id: LeaseId, to: PortId, gots: Vec<Got>, want: &Sizes, frames: usize) -> Lease
+        requires few { length gots.items ≤ most_ring }
+        requires within { frames ≤ length want.now }
+        requires few_frames { length (take frames want.now) ≤ most_ring }
+        requires blank { gots.items ≡ map blank (buffers_of gots.items) }
+        requires sizes { All IsFrameSize (take frames want.now) }
+        requires room { sum (take frames want.now) ≡ length gots.items }
+        ensures { result ≡ record {
+          id = id.0;
+          to = to.0;
+          filled = [];
+          sizes = take frames want.now;
+          empty = buffers_of gots.items;
+        } }
+    {
+        match want.told() {
+            Told::Ones(_) => Lease::of_ones(id, to, gots),
+            Told::Each(sizes) => Lease::of_each(id, to, gots, &sizes[..frames]),
         }
     }
 

@@ -12,3 +12,4 @@ mod ring;
 pub use got::Got;
 pub use lease::{Lease, LeaseRoom};
 pub use line::Line;
+pub use nm_frag::Sizes;

@@ -1,4 +1,4 @@
-ghost use Rattle.std.specs.Prelude.{◌≡◌, ◌≤◌, ◌<◌, ◌+◌, ◌-◌, ◌^◌, [], ◌∷◌, ◌++◌, All, length, take, drop, map, min, sum, false, Some, vec_len, vec_capacity, IfOk, IfErr, IfSome, IfNone};
+ghost use Rattle.std.specs.Prelude.{◌≡◌, ◌≤◌, ◌<◌, ◌+◌, ◌-◌, ◌^◌, [], ◌∷◌, ◌++◌, All, length, take, drop, map, min, replicate, sum, false, Some, vec_len, vec_capacity, IfOk, IfErr, IfSome, IfNone};
 ghost use Rattle.std.specs.List.{list_any};
 ghost use Rattle.std.specs.VecDeque.{deque_capacity};
 ghost use Rattle.nm_types.specs.Limits.{most_ring};
@@ -14,6 +14,7 @@ ghost use Rattle.vale_line.specs.Lines.{LineState, is_out_at, slots_out, first_g
 use crate::got::Got;
 use crate::lease::{Lease, LeaseRoom};
 use crate::ring::Ring;
+use nm_frag::{Sizes, Told};
 use nm_region::Buf;
 use nm_types::{LeaseId, NoMemory, PortId};
 use std::alloc::Global;
@@ -139,6 +140,31 @@ fn count_fitting(want: &[u32], room: u32) -> (usize, u32)
     (count, room - left)
 }
 
+/// How many of so many sizes of one have a sum of at most `room`, and that sum.
+#[tactic(auto, using(crate::proofs::FittingLemmas::ones))]
+fn count_ones(count: u32, room: u32) -> (usize, u32)
+    ensures within { result.0 ≤ count }
+    ensures sizes { take result.0 (replicate count 1) ≡ fitting_sizes room (replicate count 1) }
+    ensures sum { result.1 ≡ sum (fitting_sizes room (replicate count 1)) }
+{
+    let fitting = count.min(room);
+    (fitting as usize, fitting)
+}
+
+/// How many of the first of some sizes have a sum of at most `room`, and that sum: one step where
+/// each is one.
+#[tactic(auto, using(crate::proofs::FittingLemmas::told))]
+fn fitting(want: &Sizes, room: u32) -> (usize, u32)
+    ensures within { result.0 ≤ length want.now }
+    ensures sizes { take result.0 want.now ≡ fitting_sizes room want.now }
+    ensures sum { result.1 ≡ sum (fitting_sizes room want.now) }
+{
+    match want.told() {
+        Told::Ones(count) => count_ones(count, room),
+        Told::Each(sizes) => count_fitting(sizes, room),
+    }
+}
+
 impl Line {
     /// A line of these buffers, which are idle. `clear` gives them back in the vector that is
     /// passed here, and so does `NoMemory` at once. No other call takes memory.
@@ -229,7 +255,7 @@ impl Line {
     /// Leases the first idle buffers for the longest prefix of the frames that fits: `want` is the
     /// number of slots of each frame. Returns None if the first frame is missing or does not fit.
     #[tactic(auto, using(crate::proofs::LotLemmas::lots))]
-    pub fn grant(&mut self, id: LeaseId, to: PortId, room: LeaseRoom, want: &[u32]) -> Option<Lease>
+    pub fn grant(&mut self, id: LeaseId, to: PortId, room: LeaseRoom, want: &Sizes) -> Option<Lease>
         requires new { is_there id.0 (leases_of self.old.lots) ≡ false }
         requires sizes { All IsFrameSize want.now }
         requires room { min (sum want.now) (self.old.size - 1) ≤ room }
@@ -245,7 +271,7 @@ impl Line {
         ensures line { IsLine self.old }
     {
         let gots = room.into_vec();
-        let (frames, count) = count_fitting(want, self.space());
+        let (frames, count) = fitting(want, self.space());
         if count == 0 {
             gots.destroy_empty();
             return None;
@@ -253,7 +279,7 @@ impl Line {
         self.leases.open(id, count);
         self.ring.settle(&mut self.room);
         let gots = self.ring.lease(id, count, gots);
-        Some(Lease::new(id, to, gots, &want[..frames]))
+        Some(Lease::new(id, to, gots, want, frames))
     }
 
     /// Completes a lot with its lease, which is full.

@@ -22,7 +22,7 @@ use nm_region::Buf;
 use nm_types::{LeaseId, Name, NoMemory, PortId, SessionId};
 use std::alloc::Global;
 use std::marker::Model;
-use vale_line::{Got, Lease, LeaseRoom, Line};
+use vale_line::{Got, Lease, LeaseRoom, Line, Sizes};
 
 /// A port that is to be opened: all but its receive ring.
 #[derive(Clone, Copy)]
@@ -305,7 +305,7 @@ impl Port {
 
     /// Leases the first idle buffers for the longest prefix of an offer's frames that fits: `want`
     /// is the number of slots of each frame. Returns None if no frame fits.
-    pub fn grant(&mut self, id: LeaseId, room: LeaseRoom, want: &[u32]) -> Option<Lease>
+    pub fn grant(&mut self, id: LeaseId, room: LeaseRoom, want: &Sizes) -> Option<Lease>
         requires new { is_there id.0 (leases_of self.old.line.lots) ≡ false }
         requires sizes { All IsFrameSize want.now }
         requires room { min (sum want.now) (self.old.line.size - 1) ≤ room }

@@ -15,7 +15,7 @@ use crate::port::Port;
 use crate::room::PutRoom;
 use nm_region::Buf;
 use nm_types::LeaseId;
-use vale_line::{Got, Lease, LeaseRoom};
+use vale_line::{Got, Lease, LeaseRoom, Sizes};
 
 /// Leases idle buffers of the port at a place, as `Port::grant` does.
 pub fn grant_at(
@@ -23,7 +23,7 @@ pub fn grant_at(
     place: usize,
     id: LeaseId,
     room: LeaseRoom,
-    want: &[u32],
+    want: &Sizes,
 ) -> Option<Lease>
     requires place { place < length ports.old.items }
     requires new { OfState (λ p. is_there id.0 (leases_of p.line.lots) ≡ false)

@@ -13,17 +13,25 @@ use vale_book::Book;
 use vale_entry::Reply;
 use vale_line::Lease;
 
-/// Fills a lease with the first of the frames that are wanted, as many as it is for.
-fn filled(lease: Lease, want: &Want, frames: &[Vec<u8>]) -> Lease
-    requires { IsFillable lease want.now.places.items (contents frames.now) }
-    ensures { IsFilledWith lease want.now.places.items (contents frames.now) result }
+/// Fills a lease with the frames at the first of these places, as many as it is for.
+fn filled_from(lease: Lease, places: &[u32], frames: &[Vec<u8>]) -> Lease
+    requires { IsFillable lease places.now (contents frames.now) }
+    ensures { IsFilledWith lease places.now (contents frames.now) result }
 {
     let mut lease = lease;
     let count = lease.count() as usize;
     for i in 0..count {
-        lease.fill(&frames[want.places[i] as usize]);
+        lease.fill(&frames[places[i] as usize]);
     }
     lease
+}
+
+/// Fills a lease with the first of the frames that are wanted, as many as it is for.
+fn filled(lease: Lease, want: &Want, frames: &[Vec<u8>]) -> Lease
+    requires { IsFillable lease want.now.places (contents frames.now) }
+    ensures { IsFilledWith lease want.now.places (contents frames.now) result }
+{
+    filled_from(lease, want.places.as_slice(), frames)
 }
 
 /// The place of the session whose offers are of this entry.

@@ -32,7 +32,7 @@ abbrev pub slots_in : Want → ℕ
 slots_in want = slots_wanted (wanted want)
 
 abbrev pub HasFewFrames : Want → Type 0
-HasFewFrames want = length want.sizes.items < 2 ^ 32
+HasFewFrames want = length want.sizes < 2 ^ 32
 
 -- there is room for the lease of each, and each is of fewer than 2^32 frames
 pub record IsOffers (o : Inside) : Type 0 where

@@ -100,32 +100,32 @@ pub fn give(
     requires place { place < length ports.old.items }
     requires new { OfState (λ p. is_there (length history.old.entries + 1)
         (leases_of p.line.lots) ≡ false) ports.old.items place }
-    requires sizes { All IsFrameSize want.sizes.items }
-    requires few { length want.sizes.items < 2 ^ 32 }
-    requires room { sum want.sizes.items ≤ room }
+    requires sizes { All IsFrameSize want.sizes }
+    requires few { length want.sizes < 2 ^ 32 }
+    requires room { sum want.sizes ≤ room }
     ensures to { result.to ≡ want.to }
     ensures want { result.want ≡ want }
     ensures given { result.given ≡ given_by result.lease }
-    ensures full { result.given + result.full ≡ length want.sizes.items }
+    ensures full { result.given + result.full ≡ length want.sizes }
     ensures gone { result.gone ≡ 0 }
     ensures entries { history.new.entries ≡ history.old.entries
         ++ grant_entry session origin want.to result.given result.full 0 ∷ [] }
     ensures promised { history.new.promised + 1 + (if result.given == 0 then 1 else 0)
         ≡ history.old.promised }
     ensures limits { history.new.limits ≡ history.old.limits }
-    ensures seats { (offer : Offer) → want.sizes.items ≡ sizes_of offer.frames
+    ensures seats { (offer : Offer) → want.sizes ≡ sizes_of offer.frames
         → ChangesSeat (seat_given (length history.old.entries + 1) offer) ports.old.items place
         ports.new.items }
     ensures some { IfSome result.lease (λ lease. (offer : Offer)
-        → want.sizes.items ≡ sizes_of offer.frames
+        → want.sizes ≡ sizes_of offer.frames
         → OfSeat (λ seat. IsLeaseFor (length history.old.entries + 1) offer seat lease)
         ports.old.items place) }
     ensures none { IfNone result.lease ((offer : Offer)
-        → want.sizes.items ≡ sizes_of offer.frames
+        → want.sizes ≡ sizes_of offer.frames
         → OfSeat (λ seat. given_frames offer seat ≡ []) ports.old.items place) }
     ensures lease { IfSome result.lease (λ lease. OfState (λ p. lease
         ≡ leased (lease_id (length history.old.entries + 1)) p.id
-        (granted_sizes want.sizes.items p.line) p.line) ports.old.items place) }
+        (granted_sizes want.sizes p.line) p.line) ports.old.items place) }
     ensures lot { IfSome result.lease (λ lease. OfState (λ p. ports.new.items
         ≡ slice_set ports.old.items place (with_line (with_lease
         (lease_id (length history.old.entries + 1)) (buffer_count lease) p.line) p))
@@ -151,14 +151,14 @@ pub fn give(
 /// Records that all that is wanted at a port is gone with it.
 pub fn lose(history: &mut History, session: SessionId, origin: u32, want: Want) -> Granted
     requires promised { 2 ≤ history.old.promised }
-    requires few { length want.sizes.items < 2 ^ 32 }
+    requires few { length want.sizes < 2 ^ 32 }
     ensures to { result.to ≡ want.to }
     ensures want { result.want ≡ want }
     ensures given { (result.given ≡ 0) × (result.full ≡ 0) }
-    ensures gone { result.gone ≡ length want.sizes.items }
+    ensures gone { result.gone ≡ length want.sizes }
     ensures lease { IfSome result.lease (λ _. ⊥) }
     ensures entries { history.new.entries ≡ history.old.entries
-        ++ grant_entry session origin want.to 0 0 (length want.sizes.items) ∷ [] }
+        ++ grant_entry session origin want.to 0 0 (length want.sizes) ∷ [] }
     ensures promised { history.new.promised + 2 ≡ history.old.promised }
     ensures limits { history.new.limits ≡ history.old.limits }
 {

@@ -33,7 +33,7 @@ fn slots_of(want: &Want) -> u32
     requires { slots_in want.now < 2 ^ 32 }
     ensures { result ≡ slots_in want.now }
 {
-    want.sizes.iter().sum()
+    want.sizes.sum()
 }
 
 /// Makes room for the lease of each want.
@@ -106,7 +106,7 @@ pub fn take_next(offers: &mut Offers) -> (Want, LeaseRoom)
     requires { 1 ≤ length offers.old.wants }
     ensures want { offers.old ≡ record offers.new { wants = wanted result.0 ∷ offers.new.wants } }
     ensures room { result.1 ≡ slots_wanted (wanted result.0) }
-    ensures few { length result.0.sizes.items < 2 ^ 32 }
+    ensures few { length result.0.sizes < 2 ^ 32 }
 {
     (offers.wants.take_last(), offers.rooms.take_last())
 }

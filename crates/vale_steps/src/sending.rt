@@ -14,7 +14,7 @@ use nm_count::Tally;
 use nm_types::{Batch, Counts, Name, NoMemory, PortId, SessionId, StepFault};
 use std::alloc::Global;
 use std::marker::Model;
-use vale_batch::{Lookup, Want};
+use vale_batch::{Compared, Lookup, Want};
 use vale_entry::{Ask, Dests, Entry, History, Reply};
 use vale_learn::Table;
 use vale_port::{Port, is_open_on, open_ports_on};
@@ -23,6 +23,14 @@ fn copy_of(batch: &Batch) -> Result<Batch, NoMemory>
     ensures { IfOk result (λ copy. copy ≡ batch.now) }
 {
     Ok(batch.clone()?)
+}
+
+/// The number of bytes of all frames.
+fn size_of(batch: &Compared) -> u64
+    requires { is_sendable batch.now ≡ true }
+    ensures { result ≡ bytes_of_frames batch.now }
+{
+    batch.batch().size()
 }
 
 /// How many frames of a batch are short and how many are lone, and what the ports want.
@@ -62,7 +70,7 @@ fn record(
     history: &mut History,
     classes: Classes,
     sender: Sender,
-    batch: &Batch,
+    batch: &Compared,
 ) -> Result<Offers, StepFault>
     requires sendable { is_sendable batch.now ≡ true }
     requires small { All IsSmall classes.wants }
@@ -88,12 +96,12 @@ fn record(
         monitor,
     } = sender;
     let Classes { short, lone, wants } = classes;
-    let wants = with_monitor(alloc, wants, monitor, batch)?;
+    let wants = with_monitor(alloc, wants, monitor, batch.batch())?;
     let to = dests_of(alloc, &wants)?;
     let wants = reversed(wants);
     let rooms = rooms_of(alloc, &wants)?;
-    let frames = copy_of(batch)?;
-    history.reserve(1 + 2 * to.len() as u64, batch.size())?;
+    let frames = copy_of(batch.batch())?;
+    history.reserve(1 + 2 * to.len() as u64, size_of(batch))?;
     let entry = history.len() + 1;
     history.push(Entry {
         session,
@@ -111,6 +119,33 @@ fn record(
         lone,
         wants,
         rooms,
+    })
+}
+
+/// What is told and wanted of a batch that was looked up, for ports that rise. Where all frames go to
+/// all other ports, these share the lists of them.
+fn classes_for(alloc: Global, ids: &[PortId], lookup: &Lookup) -> Result<Classes, NoMemory>
+    requires few { length lookup.now.all < 2 ^ 32 }
+    requires ports { IsRising (map port_number ids.now) }
+    ensures short { IfOk result (λ classes.
+        classes.short ≡ count_by is_short_destination lookup.now.all) }
+    ensures lone { IfOk result (λ classes. classes.lone
+        ≡ count_by (is_lone lookup.now.from ids.now) lookup.now.all) }
+    ensures wants { IfOk result (λ classes. classes.wants
+        ≡ ports_want lookup.now.from lookup.now.all ids.now) }
+{
+    if lookup.is_flood() {
+        return Ok(Classes {
+            short: 0,
+            lone: lookup.flood_lone(ids),
+            wants: lookup.flood_wants(alloc, ids)?,
+        });
+    }
+    let lists = lookup.lists(alloc, ids)?;
+    Ok(Classes {
+        short: lists.short(),
+        lone: lists.lone(),
+        wants: listed(alloc, &lists)?,
     })
 }
 
@@ -139,12 +174,7 @@ fn classes_among(
         }),
         None => {
             let ids = open_ports_on(alloc, ports, name)?;
-            let lists = lookup.lists(alloc, &ids)?;
-            Ok(Classes {
-                short: lists.short(),
-                lone: lists.lone(),
-                wants: listed(alloc, &lists)?,
-            })
+            classes_for(alloc, &ids, lookup)
         }
     }
 }
@@ -158,7 +188,7 @@ fn classify_among(
     ports: &[Port],
     name: &Name,
     from: PortId,
-    batch: &Batch,
+    batch: &Compared,
 ) -> Result<(Classes, Lookup), NoMemory>
     requires few { length batch.now ≤ most_batch }
     requires frames { All IsFrame batch.now }
@@ -194,7 +224,7 @@ pub fn send(
     session: SessionId,
     monitor: Option<PortId>,
     port: PortId,
-    batch: &Batch,
+    batch: &Compared,
 ) -> Result<Offers, StepFault>
     requires sendable { is_sendable batch.now ≡ true }
     requires frames { All IsFrame batch.now }

@@ -7,8 +7,9 @@ ghost use Rattle.vale_steps.specs.Wanting.{sizes_for, want_all, wants_with};
 
 use nm_types::{Batch, NoMemory, PortId, slots};
 use std::alloc::{AllocError, Global};
-use vale_batch::{Lists, Want};
+use vale_batch::{Lists, Places, Want};
 use vale_entry::Dest;
+use vale_line::Sizes;
 
 fn places(alloc: Global, count: u32) -> Result<Vec<u32>, AllocError>
     ensures { IfOk result (λ all. all.items ≡ range_with_len 0 count) }
@@ -47,8 +48,8 @@ fn want_all(alloc: Global, to: PortId, sizes: Vec<u32>) -> Result<Want, AllocErr
 {
     Ok(Want {
         to,
-        places: places(alloc, sizes.len() as u32)?,
-        sizes,
+        places: Places::own(places(alloc, sizes.len() as u32)?),
+        sizes: Sizes::own(sizes),
     })
 }
 

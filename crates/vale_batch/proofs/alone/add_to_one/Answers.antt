@@ -1,6 +1,6 @@
 use Rattle.std.proofs.Common.{◌≡◌, None, map, sym, rules}
 use Rattle.vale_batch.specs.Wants.{owned, placed_at, with_placed}
-use Rattle.vale_batch.proofs.Places.{rising-apart}
+use Rattle.vale_batch.proofs.Ranks.{rising-apart}
 use Rattle.vale_batch.proofs.WantLemmas.{own_found, none_to, one-changed, none-changed}
 use Rattle.vale_batch.proofs.alone.add_to_one.Goals as goal
 

@@ -1,5 +1,5 @@
 use Rattle.std.proofs.Common.{take}
-use Rattle.vale_batch.proofs.Places.{rising-own}
+use Rattle.vale_batch.proofs.Ranks.{rising-own}
 use Rattle.vale_batch.proofs.WantLemmas.{loop-more}
 use Rattle.vale_batch.proofs.alone.owns_of.Goals as goal
 

@@ -1,5 +1,5 @@
 use Rattle.std.proofs.Common.{◌∙◌, sym}
-use Rattle.vale_batch.proofs.Places.{stands-there}
+use Rattle.vale_batch.proofs.Ranks.{stands-there}
 use Rattle.vale_batch.proofs.alone.place_near.Goals as goal
 
 pub returns-then-stands_at : goal.returns-then-stands_at

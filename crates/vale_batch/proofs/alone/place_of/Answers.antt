@@ -1,5 +1,5 @@
 use Rattle.std.proofs.Common.{◌∙◌, sym}
-use Rattle.vale_batch.proofs.Places.{stands-there, none-there}
+use Rattle.vale_batch.proofs.Ranks.{stands-there, none-there}
 use Rattle.vale_batch.proofs.alone.place_of.Goals as goal
 
 pub returns-then-stands_at : goal.returns-then-stands_at

@@ -3,7 +3,7 @@ use Rattle.std.specs.List.Sorted.{IsPartitionedBy, IsPartitionPoint}
 use Rattle.std.proofs.lemmas.List.Sorted.{IsPartitionPoint-from_clause}
 use Rattle.vale_batch.specs.declared.alone.Own.{Own}
 use Rattle.vale_batch.specs.Wants.{is_before}
-use Rattle.vale_batch.proofs.Places.{partitioned}
+use Rattle.vale_batch.proofs.Ranks.{partitioned}
 use Rattle.vale_batch.proofs.alone.rank_of.Goals as goal
 
 pub returns-clause-point : goal.returns-clause-point

@@ -5,11 +5,10 @@ use Rattle.vale_batch.proofs.lists.merge.Given as goal
 
 abbrev pub invariant-loop-placed : goal.invariant-loop-placed
 invariant-loop-placed l = record {
-  to : l.want.to ≡ l.fn.want.to;
-  places : l.want.places.items ++ map place_of (merged l.own l.flooded) ≡ l.fn.want.places.items ++ map place_of (merged l.fn.own l.fn.flooded);
-  sizes : l.want.sizes.items ++ map slots_of (merged l.own l.flooded) ≡ l.fn.want.sizes.items ++ map slots_of (merged l.fn.own l.fn.flooded);
-  places_room : vec_len l.want.places + length (merged l.own l.flooded) ≤ vec_capacity l.want.places;
-  sizes_room : vec_len l.want.sizes + length (merged l.own l.flooded) ≤ vec_capacity l.want.sizes;
+  places : l.places.items ++ map place_of (merged l.own l.flooded) ≡ l.fn.places.items ++ map place_of (merged l.fn.own l.fn.flooded);
+  sizes : l.sizes.items ++ map slots_of (merged l.own l.flooded) ≡ l.fn.sizes.items ++ map slots_of (merged l.fn.own l.fn.flooded);
+  places_room : vec_len l.places + length (merged l.own l.flooded) ≤ vec_capacity l.places;
+  sizes_room : vec_len l.sizes + length (merged l.own l.flooded) ≤ vec_capacity l.sizes;
 }
 
 abbrev pub decreases-loop-placed : goal.decreases-loop-placed

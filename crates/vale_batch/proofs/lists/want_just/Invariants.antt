@@ -5,9 +5,8 @@ use Rattle.vale_batch.proofs.lists.want_just.Given as goal
 
 abbrev pub invariant-loop-placed : goal.invariant-loop-placed
 invariant-loop-placed l = record {
-  to : l.want.to ≡ l.fn.to;
-  places : l.want.places.items ≡ map place_of (take l.placed-index l.frames);
-  sizes : l.want.sizes.items ≡ map slots_of (take l.placed-index l.frames);
-  places_room : length l.frames ≤ vec_capacity l.want.places;
-  sizes_room : length l.frames ≤ vec_capacity l.want.sizes;
+  places : l.places.items ≡ map place_of (take l.placed-index l.frames);
+  sizes : l.sizes.items ≡ map slots_of (take l.placed-index l.frames);
+  places_room : length l.frames ≤ vec_capacity l.places;
+  sizes_room : length l.frames ≤ vec_capacity l.sizes;
 }

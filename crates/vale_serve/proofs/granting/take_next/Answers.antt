@@ -19,7 +19,7 @@ filled-requires c =
     let parts = c.into_lease-want.ensures in
     let first = rw (← parts.want) at e.want in
     let gives : IsLeaseBy c.args.book.now c.args.sent.now.offers.entry _ c.in-Some.lease = rw (sym parts.lease ∙ c.in-Some.is) at e.lease in
-    subst (λ (fs : List (Vec _ Global)). IsFillable c.in-Some.lease c.into_lease-want.result.0.places.items (contents fs)) (sym c.deref.ensures.value)
+    subst (λ (fs : List (Vec _ Global)). IsFillable c.in-Some.lease c.into_lease-want.result.0.places (contents fs)) (sym c.deref.ensures.value)
     (fillable c.args.book.now c.args.sent.now c.requires (wanted c.into_lease-want.result.0) _ c.in-Some.lease first gives)
 
 pub returns-in-Some : goal.returns-in-Some
@@ -29,7 +29,7 @@ returns-in-Some c =
     let want = wanted c.into_lease-want.result.0 in
     let first = rw (← parts.want) at e.want in
     let gives : IsLeaseBy c.args.book.now c.args.sent.now.offers.entry _ c.in-Some.lease = rw (sym parts.lease ∙ c.in-Some.is) at e.lease in
-    let filled = subst (λ (fs : List (Vec _ Global)). IsFilledWith c.in-Some.lease c.into_lease-want.result.0.places.items (contents fs) c.filled.result) c.deref.ensures.value
+    let filled = subst (λ (fs : List (Vec _ Global)). IsFilledWith c.in-Some.lease c.into_lease-want.result.0.places (contents fs) c.filled.result) c.deref.ensures.value
     (record { id = c.filled.ensures.id; to = c.filled.ensures.to; full = c.filled.ensures.full; empty = c.filled.ensures.empty; kept = c.filled.ensures.kept; region_is = c.filled.ensures.region_is }) in
     record {
       to = c.grant-granted.result.to;

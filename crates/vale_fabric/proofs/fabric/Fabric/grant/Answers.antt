@@ -40,14 +40,14 @@ makes g c = acted (as-lent c.deref_mut.ensures.value c.take-book.ensures.taken) 
 
 -- the lease is one of the session's own, for frames that are offered
 fills : (g : given.Over) (c : After-give g) → IfSome c.grant-granted.result.lease (λ (lease : Leased). (frames : List Frame) → StandOf (standing (seen_by c.args.self.now c.args.pass.now)) c.args.offers.now frames
-    → IsHeldFor (seen_by c.args.self.now c.give.new.pass) c.args.offers.now.session lease (bytes_of frames) (take c.grant-granted.result.given c.grant-granted.result.want.places.items))
+    → IsHeldFor (seen_by c.args.self.now c.give.new.pass) c.args.offers.now.session lease (bytes_of frames) (take c.grant-granted.result.given c.grant-granted.result.want.places))
 fills g c =
     let granted = c.before.before.before in
     let call = c.grant-granted.ensures in
     let said = c.grant-granted.result in
     let o = c.args.offers.now in
     subst (λ (r : Recorded). IfSome said.lease (λ (lease : Leased). (frames : List Frame) → StandOf (standing (seen_by c.args.self.now c.args.pass.now)) o frames
-    → IsHeldFor r o.session lease (bytes_of frames) (take said.given said.want.places.items))) (sym (makes g c).now)
+    → IsHeldFor r o.session lease (bytes_of frames) (take said.given said.want.places))) (sym (makes g c).now)
     (held-frames o said.to (acts g granted).steps (λ (frames : List Frame). StandOf (standing (seen_by c.args.self.now c.args.pass.now)) o frames) said.lease said.given (wanted said.want)
     (as-lent c.deref_mut.ensures.value c.take-book.ensures.taken).legal call.made c.requires.next (stood g granted.before.before) (first g granted.before.before) call.want call.given call.lease)
 

@@ -17,19 +17,19 @@ use Rattle.vale_fabric.proofs.fabric.Fabric.settle_next.Goals as goal
 pub slice_bounds-places-end : goal.slice_bounds-places-end
 slice_bounds-places-end g c =
     let given = c.grant-given.result.given in
-    let places = c.grant-given.result.want.places.items in
+    let places = c.grant-given.result.want.places in
     let held = for-bytes (seen_by c.args.self.now c.grant-given.new.pass) c.args.offers.now.session (standing (seen_by c.args.self.now c.args.pass.now)) c.args.offers.now (bytes_from c.args.frames)
     (take given places) c.grant-given.result.lease (c.requires.hand.stands c.requires.next) c.grant-given.ensures.fills in
     as-many-places (seen_by c.args.self.now c.grant-given.new.pass) c.args.offers.now.session (bytes_from c.args.frames) given places c.grant-given.result.lease c.grant-given.ensures.given held
-    ∙ ap (λ (l : List ℕ). length (take given l)) (sym c.deref.ensures.value)
+    ∙ ap (λ (l : List ℕ). length (take given l)) (sym c.as_slice.ensures)
 
 pub complete-requires-clause-held : goal.complete-requires-clause-held
 complete-requires-clause-held g c =
     let given = c.grant-given.result.given in
     let held = for-bytes (seen_by c.args.self.now c.grant-given.new.pass) c.args.offers.now.session (standing (seen_by c.args.self.now c.args.pass.now)) c.args.offers.now (bytes_from c.args.frames)
-    (take given c.grant-given.result.want.places.items) c.grant-given.result.lease (c.requires.hand.stands c.requires.next) c.grant-given.ensures.fills in
-    subst (λ (l : List ℕ). IfSome c.grant-given.result.lease (λ lease. MayFillFrom (fixed_in c.args.self.now) (knowing c.grant-given.new.pass) lease (bytes_from c.args.frames) (take given l))) (sym c.deref.ensures.value)
-    (may-fill-from c.args.offers.now.session (bytes_from c.args.frames) (take given c.grant-given.result.want.places.items) c.grant-given.result.lease c.grant-given.ensures.made.makes c.requires.hand.speaks held)
+    (take given c.grant-given.result.want.places) c.grant-given.result.lease (c.requires.hand.stands c.requires.next) c.grant-given.ensures.fills in
+    subst (λ (l : List ℕ). IfSome c.grant-given.result.lease (λ lease. MayFillFrom (fixed_in c.args.self.now) (knowing c.grant-given.new.pass) lease (bytes_from c.args.frames) (take given l))) (sym c.as_slice.ensures)
+    (may-fill-from c.args.offers.now.session (bytes_from c.args.frames) (take given c.grant-given.result.want.places) c.grant-given.result.lease c.grant-given.ensures.made.makes c.requires.hand.speaks held)
 
 rest : (g : given.Over) (c : After-complete g) → Rest (fixed_in c.args.self.now) (knowing c.args.pass.now) (knowing c.complete.new.pass) c.args.offers.now (bytes_from c.args.frames)
     (record { given = c.grant-given.result.given; full = c.grant-given.result.full; gone = c.grant-given.result.gone })

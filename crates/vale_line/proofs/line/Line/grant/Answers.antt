@@ -34,18 +34,18 @@ lease-gots-requires-clause-lots c = few-held c.settle.new.self (subst IsLine (sy
 
 -- which frames are granted, and how many buffers they take
 pub record Granting (c : goal.After-new) : Type 0 where
-  pub sizes : take c.count_fitting-frames.result.0 c.args.want.now ≡ granted_sizes c.args.want.now (state_of c.self.inside)
-  pub count : c.count_fitting-frames.result.1 ≡ sum (granted_sizes c.args.want.now (state_of c.self.inside))
-  pub some : 1 ≤ c.count_fitting-frames.result.1
-  pub fits : c.count_fitting-frames.result.1 ≤ space_of (state_of c.self.inside)
+  pub sizes : take c.fitting-frames.result.0 c.args.want.now ≡ granted_sizes c.args.want.now (state_of c.self.inside)
+  pub count : c.fitting-frames.result.1 ≡ sum (granted_sizes c.args.want.now (state_of c.self.inside))
+  pub some : 1 ≤ c.fitting-frames.result.1
+  pub fits : c.fitting-frames.result.1 ≤ space_of (state_of c.self.inside)
 
 granting : (c : goal.After-new) → Granting c
 granting c =
     let line = state_of c.self.inside in
-    let n = c.count_fitting-frames.result.1 in
+    let n = c.fitting-frames.result.1 in
     let space : c.space.result ≡ space_of line = c.space.ensures.space ∙ ap space_of (sym c.self.view_is) in
-    let sizes : take c.count_fitting-frames.result.0 c.args.want.now ≡ granted_sizes c.args.want.now line = c.count_fitting-frames.ensures.sizes ∙ ap (λ (k : ℕ). fitting_sizes k c.args.want.now) space in
-    let count : n ≡ sum (granted_sizes c.args.want.now line) = c.count_fitting-frames.ensures.sum ∙ ap (λ (k : ℕ). sum (fitting_sizes k c.args.want.now)) space in
+    let sizes : take c.fitting-frames.result.0 c.args.want.now ≡ granted_sizes c.args.want.now line = c.fitting-frames.ensures.sizes ∙ ap (λ (k : ℕ). fitting_sizes k c.args.want.now) space in
+    let count : n ≡ sum (granted_sizes c.args.want.now line) = c.fitting-frames.ensures.sum ∙ ap (λ (k : ℕ). sum (fitting_sizes k c.args.want.now)) space in
     let most = fitting-sum (space_of line) c.args.want.now in
     let some : 1 ≤ n = search (rules, arith) in
     record { sizes = sizes; count = count; some = some; fits = omega (arith, count, most) }
@@ -53,7 +53,7 @@ granting c =
 pub invariant_of-self : goal.invariant_of-self
 invariant_of-self c =
     let line = state_of c.self.inside in
-    let n = c.count_fitting-frames.result.1 in
+    let n = c.fitting-frames.result.1 in
     let g = granting c in
     let fresh : is_there c.args.id.0 (leases_of line.lots) ≡ false = ap (λ (l : LineState). is_there c.args.id.0 (leases_of l.lots)) c.self.view_is ∙ c.requires.new in
     let is = IsLine-granted line c.args.id n c.self.invariant.line g.some g.fits fresh in
@@ -74,19 +74,19 @@ returns-clause-some c =
 pub returns-clause-lease : goal.returns-clause-lease
 returns-clause-lease c =
     let line = state_of c.self.inside in
-    let n = c.count_fitting-frames.result.1 in
+    let n = c.fitting-frames.result.1 in
     let g = granting c in
-    let lent : buffers_of c.lease-gots.result.items ≡ take n line.idle = ap buffers_of (blanks-settled c.count_fitting-frames.result.1 c.lease-gots.result.items c.settle.ensures.line c.lease-gots.ensures.gots) ∙ buffers-blank (take n line.idle) in
+    let lent : buffers_of c.lease-gots.result.items ≡ take n line.idle = ap buffers_of (blanks-settled c.fitting-frames.result.1 c.lease-gots.result.items c.settle.ensures.line c.lease-gots.ensures.gots) ∙ buffers-blank (take n line.idle) in
     let start = lease_of_buffers c.args.id.0 c.args.to.0 in
     rw (← c.self.view_is) (c.new.ensures
-    ∙ (ap (λ (bs : List Buffer). start (take c.count_fitting-frames.result.0 c.args.want.now) bs) lent
-    ∙ (ap (λ (k : ℕ). start (take c.count_fitting-frames.result.0 c.args.want.now) (take k line.idle)) g.count
+    ∙ (ap (λ (bs : List Buffer). start (take c.fitting-frames.result.0 c.args.want.now) bs) lent
+    ∙ (ap (λ (k : ℕ). start (take c.fitting-frames.result.0 c.args.want.now) (take k line.idle)) g.count
     ∙ ap (λ (ns : List ℕ). start ns (take (sum (granted_sizes c.args.want.now line)) line.idle)) g.sizes)))
 
 pub returns-clause-lot : goal.returns-clause-lot
 returns-clause-lot c =
     let g = granting c in
-    rw (← c.self.view_is) (c.lease-gots.ensures.line ∙ ap (with_lease c.args.id c.count_fitting-frames.result.1) c.settle.ensures.line ∙ ap (λ (k : ℕ). with_lease c.args.id k (state_of c.self.inside)) g.count)
+    rw (← c.self.view_is) (c.lease-gots.ensures.line ∙ ap (with_lease c.args.id c.fitting-frames.result.1) c.settle.ensures.line ∙ ap (λ (k : ℕ). with_lease c.args.id k (state_of c.self.inside)) g.count)
 
 none-left : (sizes : List ℕ) → length sizes ≤ 0 → sizes ≡ []
 none-left [] h = refl
@@ -97,7 +97,7 @@ returns-then-count-eq0-clause-none c =
     let want = c.args.want.now in
     let few = fitting-count c.space.result want c.requires.sizes in
     let none = c.if-count-eq0.true in
-    let count = c.count_fitting-frames.ensures.sum in
+    let count = c.fitting-frames.ensures.sum in
     let all = none-left (fitting_sizes c.space.result want) (omega (arith, few, none, count)) in
     let space : c.space.result ≡ space_of c.args.self.now = c.space.ensures.space in
     (ap (λ (k : ℕ). fitting_sizes k want) (sym space) ∙ all, refl)
@@ -106,7 +106,7 @@ pub open-requires-clause-room : goal.open-requires-clause-room
 open-requires-clause-room c =
     let line = state_of c.self.inside in
     let most = fitting-sum c.space.result c.args.want.now in
-    let count = c.count_fitting-frames.ensures.sum in
+    let count = c.fitting-frames.ensures.sum in
     let space : c.space.result ≡ space_of line = c.space.ensures.space ∙ ap space_of (sym c.self.view_is) in
     let slots = ap (λ (r : LeaseRing). ring_slots r.leases) c.self.invariant.leases ∙ leased-slots line.lots in
     let size = ap (λ (r : LeaseRing). r.size) c.self.invariant.leases in
@@ -119,7 +119,7 @@ lease-gots-requires-clause-gots_room c =
     let line = state_of c.self.inside in
     let most = fitting-sum c.space.result c.args.want.now in
     let total = fitting-total c.space.result c.args.want.now in
-    let count = c.count_fitting-frames.ensures.sum in
+    let count = c.fitting-frames.ensures.sum in
     let space : c.space.result ≡ space_of line = c.space.ensures.space ∙ ap space_of (sym c.self.view_is) in
     let size : line.size ≡ c.args.self.now.size = ap (λ (l : LineState). l.size) c.self.view_is in
     let within = c.self.invariant.line.within in
@@ -130,7 +130,7 @@ lease-gots-requires-clause-gots_room c =
 pub lease-gots-requires-clause-enough : goal.lease-gots-requires-clause-enough
 lease-gots-requires-clause-enough c =
     let most = fitting-sum c.space.result c.args.want.now in
-    let count = c.count_fitting-frames.ensures.sum in
+    let count = c.fitting-frames.ensures.sum in
     let space : c.space.result ≡ space_of (state_of c.self.inside) = c.space.ensures.space ∙ ap space_of (sym c.self.view_is) in
     let idle = ap (λ (l : LineState). length l.idle) c.settle.ensures.line in
     omega (arith, most, count, space, idle)
@@ -140,7 +140,7 @@ new-requires-clause-few_frames c =
     let line = state_of c.self.inside in
     let frames = fitting-count c.space.result c.args.want.now c.requires.sizes in
     let most = fitting-sum c.space.result c.args.want.now in
-    let sizes = ap length c.count_fitting-frames.ensures.sizes in
+    let sizes = ap length c.fitting-frames.ensures.sizes in
     let space : c.space.result ≡ space_of line = c.space.ensures.space ∙ ap space_of (sym c.self.view_is) in
     let few = c.self.invariant.line.few in
     let within = c.self.invariant.line.within in
@@ -149,23 +149,23 @@ new-requires-clause-few_frames c =
 pub new-requires-clause-room : goal.new-requires-clause-room
 new-requires-clause-room c =
     let idle = (state_of c.self.inside).idle in
-    let n = c.count_fitting-frames.result.1 in
+    let n = c.fitting-frames.result.1 in
     let most = fitting-sum c.space.result c.args.want.now in
-    let sum_is = ap sum c.count_fitting-frames.ensures.sizes in
-    let count = c.count_fitting-frames.ensures.sum in
+    let sum_is = ap sum c.fitting-frames.ensures.sizes in
+    let count = c.fitting-frames.ensures.sum in
     let space : c.space.result ≡ space_of (state_of c.self.inside) = c.space.ensures.space ∙ ap space_of (sym c.self.view_is) in
     let enough : n ≤ length idle = omega (arith, most, count, space) in
-    let blanks = ap length (blanks-settled c.count_fitting-frames.result.1 c.lease-gots.result.items c.settle.ensures.line c.lease-gots.ensures.gots) ∙ (length-map (take n idle) blank ∙ length-take-le n idle enough) in
+    let blanks = ap length (blanks-settled c.fitting-frames.result.1 c.lease-gots.result.items c.settle.ensures.line c.lease-gots.ensures.gots) ∙ (length-map (take n idle) blank ∙ length-take-le n idle enough) in
     omega (arith, sum_is, count, blanks)
 
 pub new-requires-clause-blank : goal.new-requires-clause-blank
 new-requires-clause-blank c =
-    let bufs = take c.count_fitting-frames.result.1 (state_of c.self.inside).idle in
-    let is = blanks-settled c.count_fitting-frames.result.1 c.lease-gots.result.items c.settle.ensures.line c.lease-gots.ensures.gots in
+    let bufs = take c.fitting-frames.result.1 (state_of c.self.inside).idle in
+    let is = blanks-settled c.fitting-frames.result.1 c.lease-gots.result.items c.settle.ensures.line c.lease-gots.ensures.gots in
     is ∙ ap (λ (bs : List Buffer). map blank bs) (sym (ap buffers_of is ∙ buffers-blank bufs))
 
 pub new-requires-clause-sizes : goal.new-requires-clause-sizes
-new-requires-clause-sizes c = All-take IsFrameSize c.count_fitting-frames.result.0 c.args.want.now c.requires.sizes
+new-requires-clause-sizes c = All-take IsFrameSize c.fitting-frames.result.0 c.args.want.now c.requires.sizes
 
 pub returns-clause-count : goal.returns-clause-count
 returns-clause-count c =
@@ -174,3 +174,6 @@ returns-clause-count c =
     let most = fitting-sum (space_of line) c.args.want.now in
     let taken = length-take-le (sum sizes) line.idle (omega (arith, most)) in
     ap buffer_count (returns-clause-lease c) ∙ omega (arith, taken)
+
+pub new-requires-clause-within : goal.new-requires-clause-within
+new-requires-clause-within c = c.fitting-frames.ensures.within

@@ -3,7 +3,7 @@ use Rattle.vale_line.specs.Gots.{frames_in}
 use Rattle.vale_book.specs.Leases.{KeepsBuffers}
 use Rattle.vale_serve.specs.Filling.{placed}
 use Rattle.vale_serve.specs.Users.{contents}
-use Rattle.vale_serve.proofs.granting.filled.Given as goal
+use Rattle.vale_serve.proofs.granting.filled_from.Given as goal
 
 abbrev pub invariant-loop-i : goal.invariant-loop-i
 invariant-loop-i l = record {
@@ -11,6 +11,6 @@ invariant-loop-i l = record {
   to : l.lease.to ≡ l.fn.lease.to;
   count : l.count ≡ length l.fn.lease.sizes;
   sizes : l.lease.sizes ≡ drop l.i l.fn.lease.sizes;
-  frames : frames_in l.lease.filled ≡ placed (contents l.frames) (take l.i l.want.places.items);
+  frames : frames_in l.lease.filled ≡ placed (contents l.frames) (take l.i l.places);
   buffers : KeepsBuffers l.fn.lease l.lease;
 }
