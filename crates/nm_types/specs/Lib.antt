@@ -18,6 +18,7 @@ pub mod Parts
 pub mod Places
 pub mod Positions
 pub mod Reset
+pub mod Rows
 pub mod Runs
 pub mod Sendable
 pub mod Sides

@@ -21,6 +21,7 @@ pub mod RowWords
 pub mod Rows
 pub mod PortRows
 pub mod TextRows
+pub mod SizeRows
 pub mod Laws
 pub mod Delivered
 pub mod Fate
