@@ -1,8 +1,8 @@
-ghost use Rattle.std.specs.Prelude.{[], ◌∷◌, Some};
+ghost use Rattle.std.specs.Prelude.{Some};
 
 use nm_io::{
-    Failed, FileShelf, Gate, MemoryShelf, MemorySink, NoGate, Page, RawSink, RawWrite, ReadError,
-    Shelf, Sink, Stage, StdSink, Text, append_all, put_all, put_page, put_text, read_all,
+    Failed, FileShelf, Gate, MemoryShelf, MemorySink, NoGate, RawSink, RawWrite, ReadError,
+    Shelf, Sink, Stage, StdSink, append_all, put_all, read_all,
 };
 use std::alloc::Global;
 use std::io::ErrorKind;
@@ -111,48 +111,6 @@ fn reads_whole_files_within_the_limit(rt: HostRuntime) -> Result<(), Fail> {
     let mut shelf = MemoryShelf::new(rt.alloc(), Vec::new(rt.alloc()));
     let found = read_all(rt.alloc(), &mut shelf, "s", 9);
     assert!(rt; matches!(found, Err(ReadError::Failed)));
-    Ok(())
-}
-
-/// A text of one byte three times.
-#[derive(Clone, Copy)]
-struct Word(u8);
-
-impl Text for Word {
-    ghost text = { λ w. w.0 ∷ w.0 ∷ w.0 ∷ [] };
-
-    fn write<K: Sink>(&self, out: &mut K) -> Result<(), Failed> {
-        put_all(out, &[self.0, self.0, self.0])
-    }
-}
-
-/// The size of a page, and which call of a sink fails: the one behind those that put three words.
-const PAGES: [(usize, u64); 4] = [(2, 4), (3, 4), (6, 3), (9, 2)];
-
-/// Puts three words by pages of so many bytes.
-fn put_words(
-    rt: &impl Abort,
-    alloc: Global,
-    sink: &mut MemorySink,
-    size: usize,
-) -> Result<(), Fail> {
-    let mut page = Page::new(alloc, size)?;
-    for letter in [b'a', b'b', b'c'] {
-        assert!(rt; put_text(sink, &mut page, &Word(letter)).is_ok());
-    }
-    assert!(rt; put_page(sink, &mut page).is_ok());
-    assert!(rt; page.bytes().is_empty());
-    Ok(())
-}
-
-#[test]
-fn texts_go_out_by_pages(rt: HostRuntime) -> Result<(), Fail> {
-    for (size, last) in PAGES {
-        let mut sink = MemorySink::new(rt.alloc(), vec![in rt.alloc(); last]?);
-        put_words(&rt, rt.alloc(), &mut sink, size)?;
-        assert!(rt; sink.bytes() == b"aaabbbccc".as_slice());
-        assert!(rt; sink.put(b"d") == Err(Failed), "pages of {size} bytes");
-    }
     Ok(())
 }
 

@@ -1,27 +1,8 @@
-use Rattle.std.proofs.Common.{◌≡◌, ℕ, ◌+◌, List, [], ◌++◌, length, take, drop, Option, Result, Ok, Err, refl, sym, ap, subst, ◌∙◌, arith, append_assoc, length-append, take-append-drop, take_all}
-use Rattle.std.proofs.Math.Seq.{take-append_seam, drop-append_seam, take-append-add, drop-append-add, drop-length}
+use Rattle.std.proofs.Common.{◌≡◌, ℕ, ◌+◌, List, [], ◌++◌, length, take, drop, Option, Result, Ok, Err, refl, sym, ap, subst, ◌∙◌, arith, append_assoc, length-append, take-append-drop}
+use Rattle.std.proofs.Math.Seq.{take-append-add, drop-append-add}
 use Rattle.nm_io.specs.Held.{grown, GrowsByPrefix, Writes}
-use Rattle.nm_io.specs.Gathered.{Gathered, Gathers}
+use Rattle.nm_io.specs.Gathered.{Gathered}
 use Rattle.nm_io.proofs.Growth.{grown-grown, grown_nothing, grows_more, grows_longer}
-
--- the page went out, and holds these bytes now
-pub gathered_after : (old new : Option (List ℕ)) (page bytes : List ℕ) → new ≡ grown old page → Gathered old new page bytes bytes
-gathered_after old new page bytes out = record {
-  count = length page;
-  within = omega (arith, length-append page bytes);
-  held = out ∙ ap (grown old) (sym (take-append_seam page bytes));
-  rest = sym (drop-append_seam page bytes);
-}
-
--- the page went out, and these bytes by themselves
-pub gathered_out : {T E : Type 0} (old middle new : Option (List ℕ)) (page bytes : List ℕ) (result : Result T E) → middle ≡ grown old page → Writes middle new result bytes → Gathers old new page [] result bytes
-gathered_out old middle new page bytes (Ok x) out written = record {
-  count = length (page ++ bytes);
-  within = omega arith;
-  held = written ∙ ap (λ h. grown h bytes) out ∙ grown-grown old page bytes ∙ ap (grown old) (sym (take_all (length (page ++ bytes)) (page ++ bytes) (omega arith)));
-  rest = sym (drop-length (page ++ bytes));
-}
-gathered_out old middle new page bytes (Err e) out written = grows_more old middle new page bytes out written
 
 -- what went out in a first step, and what the page then held
 two_parts : (p q a b : List ℕ) (count : ℕ) → q ≡ drop count (p ++ a) → p ++ (a ++ b) ≡ take count (p ++ a) ++ (q ++ b)
@@ -74,8 +55,6 @@ gathered_written old middle new page bytes (Err e) first out = gathered_some old
 -- a prefix of what was tried first is one of all that was to come
 pub grows_past : (old new : Option (List ℕ)) (page a b : List ℕ) → GrowsByPrefix old new (page ++ a) → GrowsByPrefix old new (page ++ (a ++ b))
 grows_past old new page a b part = subst (GrowsByPrefix old new) (append_assoc page a b) (grows_longer old new (page ++ a) b part)
-
-pub ruleset by_page = (gathered_after, gathered_out, grows_longer)
 
 -- what a function that writes several texts by way of a page needs
 pub ruleset gathering = (gathered_more, gathered_fails, gathered_nothing, gathered_all, gathered_some, gathered_written, grows_past)

@@ -3,7 +3,6 @@ pub mod Counts
 pub mod Files
 pub mod Gathered
 pub mod Held
-pub mod PageState
 pub mod ShelfState
 pub mod SinkState
 pub mod Whole

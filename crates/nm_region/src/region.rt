@@ -17,8 +17,7 @@ use std::marker::Model;
 /// its buffers.
 ///
 /// All buffers lie in one block of memory. A region is told from all others by that block: its
-/// number is that of the block in proofs, so no caller can work it out, and two regions never share
-/// one.
+/// number is that of the block in proofs, so no caller can work it out.
 pub struct Region {
     block: Block,
     deed: Deed<Global>,

@@ -58,7 +58,7 @@ fn script_name(words: &[String]) -> Option<&str>
     word_behind(words, "run")
 }
 
-/// A file was not read.
+/// How a run ends that could not read a file.
 pub(crate) fn read_fault(alloc: Global, name: &str) -> Status
     ensures { NamesFile name.now result }
 {
@@ -68,7 +68,7 @@ pub(crate) fn read_fault(alloc: Global, name: &str) -> Status
     }
 }
 
-/// A file is no capture.
+/// How a run ends that found no capture in a file.
 fn bad_capture(alloc: Global, name: &str, cause: PcapFault) -> Status
     ensures { BlamesFile name.now cause result }
 {
@@ -369,8 +369,9 @@ pub fn run_leaving<R: AllocGlobal + Threads + Wait + Sync, S: Shelf, K: Sink, G:
 }
 
 /// Runs a command: the words `run SCRIPT`, where SCRIPT names a file of the shelf, `load N`, or
-/// `migrate FILE`. The
-/// script's users play their lines as sessions of one fabric, side by side on threads where the
+/// `migrate FILE`.
+///
+/// The script's users play their lines as sessions of one fabric, side by side on threads where the
 /// script says so; the gate is passed as frames go to ports. Once all have left, the transcript of
 /// what happened goes to the output, and then each capture that the script saves to the end of its
 /// file. `load N` plays the script that `vale_gen` makes of N, and writes one line of what was sent.
