@@ -27,7 +27,7 @@ fn frame(letter: u8) -> [u8; 15] {
 fn put(session: &mut Session, port: PortId, letter: u8) -> Option<()> {
     let ring = session.ring(port, Side::Tx)?;
     let (at, _) = ring.user_range();
-    let next = (at + 1) % ring.size();
+    let next = ring.next(at);
     let slot = session.slot_mut(port, Side::Tx, at)?;
     slot.len = 15;
     let idx = slot.buf_idx;

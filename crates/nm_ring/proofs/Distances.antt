@@ -1,6 +1,6 @@
 -- How far it is from one position of a ring to another, and to the next one, without going round twice.
 use Rattle.std.proofs.Common.{ℕ, ◌≡◌, ◌≤◌, ◌<◌, ◌+◌, ◌-◌, ◌⊎◌, inl, inr, sym, arith}
-use Rattle.std.proofs.Math.Nat.{mod-eq_of_lt}
+use Rattle.std.proofs.Math.Nat.{mod-eq_of_lt, mod_self}
 use Rattle.nm_types.specs.Positions.{dist, step_on}
 use Rattle.nm_types.proofs.RingSteps.{dist-below, dist-cases}
 
@@ -22,5 +22,10 @@ dist-behind size from to h within = behind (dist size from to) size from to h wi
 
 pub step-ahead : (size at : ℕ) → at + 1 < size → at + 1 ≡ step_on size at 1
 step-ahead size at h = sym (mod-eq_of_lt h)
+
+pub step-round : (size at : ℕ) → at < size → size ≤ at + 1 → 0 ≡ step_on size at 1
+step-round size at h last = let at_last : at + 1 ≡ size = omega (arith, h, last) in rw at_last (sym (mod_self size))
+
+pub ruleset steps = (step-ahead, step-round)
 
 pub ruleset distances = (dist-ahead, dist-behind, step-ahead)

@@ -185,6 +185,9 @@ listed_are_user_slots ring k at is_ring listed = elim (cases_lt k (dist ring.siz
 
 pub ruleset ring_laws = (steps_go_round, steps_add_up, distance_leads_there, distance_counts_steps, positions_fit_after_sync, positions_fit_after_reset, positions_fit_at_opening, send_takes_all, tail_gives_back, pending_are_counted, pushed_become_pending, taken_leave_pending, fresh_slots, pushed_are_user_slots, user_slots_are_listed, listed_are_user_slots)
 
+-- what counts the slots that are pending
+pub ruleset counts = (dist-below, pending_are_counted)
+
 pub user_slots_are_distinct : UserSlotsAreDistinct
 user_slots_are_distinct ring is_ring =
     let below = dist-below ring.size ring.accepted_head ring.last_tail is_ring.accepted in

@@ -1,8 +1,9 @@
-ghost use Rattle.std.specs.Prelude.{◌≡◌, ◌≢◌, ◌↔◌, ◌<◌, ◌≤◌, MatchResult, IsOk, IsTrue, None, Some};
+ghost use Rattle.std.specs.Prelude.{◌≡◌, ◌≢◌, ◌↔◌, ◌<◌, ◌≤◌, length, MatchResult, IsOk, IsTrue, None, Some};
 ghost use Rattle.nm_types.specs.Positions.{IsRingSize, IsRing, FitsRing, dist};
-ghost use Rattle.nm_types.specs.Positions.{opened_tx, opened_rx, advanced};
+ghost use Rattle.nm_types.specs.Positions.{opened_tx, opened_rx, advanced, step_on, pending_slots};
 ghost use Rattle.nm_types.specs.SyncChecks.{ring_refusal};
 ghost use Rattle.nm_types.specs.Reset.{reset_positions};
+ghost use Rattle.nm_ring.specs.Front.{space};
 
 use nm_types::RingFault;
 use std::marker::Model;
@@ -177,6 +178,45 @@ impl Ring {
     {
         let count = dist(self.size, self.accepted_head, self.last_tail);
         (self.accepted_head, count)
+    }
+
+    /// The slot after another one, going round: 0 after the last slot, and after what is no slot
+    /// (`nm_ring_next` of netmap_user.h).
+    #[tactic(auto, using(crate::proofs::Distances::steps))]
+    pub fn next(&self, at: u32) -> u32
+        ensures next { at < self.now.size → result ≡ step_on self.now.size at 1 }
+        ensures slot { result < self.now.size }
+    {
+        if at < self.size - 1 { at + 1 } else { 0 }
+    }
+
+    /// How many slots there are from the head to before the tail: of a transmit ring those in which
+    /// frames may still be written, of a receive ring those whose frames were not yet passed over.
+    /// 0 if the head is no slot of the ring (`nm_ring_space`).
+    pub fn space(&self) -> u32
+        ensures { result ≡ space self.now }
+    {
+        if self.head < self.size {
+            dist(self.size, self.head, self.tail)
+        } else {
+            0
+        }
+    }
+
+    /// Whether the head is the tail, so that there is no such slot (`nm_ring_empty`).
+    pub fn is_empty(&self) -> bool
+        ensures { IsTrue result ↔ (self.now.head ≡ self.now.tail) }
+    {
+        self.head == self.tail
+    }
+
+    /// How many slots of a transmit ring were pushed by a sync and not taken yet: those that wait on
+    /// a pipe whose other end is full (`nm_tx_pending` asks whether there are any).
+    #[tactic(auto, using(crate::proofs::RingLaws::counts))]
+    pub fn pending(&self) -> u32
+        ensures { result ≡ length (pending_slots self.now) }
+    {
+        self.size - 1 - dist(self.size, self.accepted_head, self.last_tail)
     }
 
     /// Whether a user who waits on the ring would be woken.

@@ -152,6 +152,7 @@ fn pipe_takes_in_part(rt: HostRuntime) {
     assert!(rt; ring.size() == 4);
     ring.advance(3, 3, 0);
     assert!(rt; ring.user_range() == (3, 1));
+    assert!(rt; ring.pending() == 2 && ring.space() == 1 && !ring.is_empty());
     assert!(rt; ring.check(3, 3).is_ok() && ring.check(0, 0).is_ok());
     assert!(rt;
         ring.check(1, 1)
@@ -161,4 +162,20 @@ fn pipe_takes_in_part(rt: HostRuntime) {
                 to: 0
             })
     );
+}
+
+/// What a user asks of a ring between two syncs, whatever head it has stored.
+#[test]
+fn slots_from_the_head_on(rt: HostRuntime) {
+    let (tx, rx) = (Ring::tx(4), Ring::rx(4));
+    assert!(rt; tx.space() == 3 && tx.pending() == 0 && !tx.is_empty());
+    assert!(rt; rx.space() == 0 && rx.is_empty());
+    for (head, space) in [(0, 3), (2, 1), (3, 0), (4, 0), (u32::MAX, 0)] {
+        let mut ring = tx;
+        ring.put_head(head);
+        assert!(rt; ring.space() == space, "head {head}");
+    }
+    for (at, next) in [(0, 1), (2, 3), (3, 0), (4, 0), (u32::MAX, 0)] {
+        assert!(rt; tx.next(at) == next, "after {at}");
+    }
 }
