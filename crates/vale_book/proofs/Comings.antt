@@ -8,7 +8,7 @@ use Rattle.vale_entry.specs.declared.entry.Ask.TheVariants.{Enter}
 use Rattle.vale_entry.specs.declared.entry.Reply.TheVariants.{Made}
 use Rattle.vale_entry.specs.declared.entry.Entry.{Entry}
 use Rattle.vale_entry.specs.Legal.{Standing, fits_u64, enter_step, step}
-use Rattle.vale_entry.specs.Stored.{Stored, Fits}
+use Rattle.vale_entry.specs.Stored.{Fits}
 use Rattle.vale_entry.proofs.Worlds.{count-world_of}
 use Rattle.vale_book.specs.declared.book.Book.TheInside.{Inside}
 use Rattle.vale_book.specs.BookView.{parts_in, number_of_session, IsBook}

@@ -1,5 +1,5 @@
 -- The step of an ask at a book, and what it is answered.
-use Rattle.std.proofs.Common.{ℕ, ◌==◌, ◌-◌, ◌<◌, ◌^◌, List, ◌≡◌, refl, sym, ap, ◌∙◌, subst, Option, Some, None, Bool, true, false, ◌&&◌, is_some}
+use Rattle.std.proofs.Common.{ℕ, ◌==◌, ◌<◌, ◌^◌, List, ◌≡◌, refl, sym, ap, ◌∙◌, subst, Option, Some, None, Bool, true, false, ◌&&◌, is_some}
 use Rattle.std.specs.Prelude.{option_map, if◌then◌else◌}
 use Rattle.std.proofs.lemmas.Bool.{eqb-true}
 use Rattle.vale_entry.specs.declared.entry.Ask.{Ask}

@@ -1,5 +1,5 @@
 -- What a book tells of a port is what stands of it in the world.
-use Rattle.std.proofs.Common.{ℕ, Bool, true, ◌≡◌, List, length, map, slice_get, Option, Some, None, is_some, option_map, Result, Ok, Err, IfOk, refl, sym, ◌∙◌, ap, subst}
+use Rattle.std.proofs.Common.{ℕ, Bool, true, ◌≡◌, List, length, Option, Some, None, is_some, Result, Ok, Err, IfOk, refl, sym, ◌∙◌, ap, subst}
 use Rattle.std.specs.Prelude.{Vec}
 use Rattle.std.specs.declared.alloc.Global.{Global}
 use Rattle.std.proofs.lemmas.List.{length-map}

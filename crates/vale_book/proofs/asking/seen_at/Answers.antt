@@ -1,5 +1,4 @@
 use Rattle.std.proofs.Common.{◌≡◌, ◌∙◌, get_or, rules}
-use Rattle.vale_port.specs.Ports.{IsSeatOf}
 use Rattle.vale_port.specs.Seat.{Seat}
 use Rattle.vale_port.proofs.Places.{of-seat}
 use Rattle.vale_book.specs.Asking.{IsSeen}

@@ -1,4 +1,4 @@
-use Rattle.std.proofs.Common.{◌≡◌, length, sym, subst, OnOk, OnErr, refl}
+use Rattle.std.proofs.Common.{sym, subst, OnOk, OnErr, refl}
 use Rattle.std.proofs.lemmas.Result.{IfErr-weaker}
 use Rattle.nm_region.specs.Buffers.{indices_of}
 use Rattle.vale_entry.specs.declared.entry.Ask.{Ask}
