@@ -73,7 +73,12 @@ impl Switch {
     /// The port to which all of some frames from a port go, each to it alone.
     fn sole(&mut self, rt: &impl Abort, from: u32, frames: &[(&[u8], bool)]) -> Option<PortId> {
         let batch = batch_of(rt, self.alloc, frames);
-        match Lookup::new(self.alloc, &mut self.table, PortId(from), &Compared::new(&batch)) {
+        match Lookup::new(
+            self.alloc,
+            &mut self.table,
+            PortId(from),
+            &Compared::new(&batch),
+        ) {
             Ok(lookup) => lookup.sole(),
             Err(_) => panic!(rt; "no memory"),
         }

@@ -68,13 +68,10 @@ size-at sizes fs i bytes are at = by fs i at ∙ ap (λ (ns : List ℕ). first_s
     by (f ∷ fs) zero at = let same : f ≡ bytes = cc in ap slots_of_bytes (sym same)
     by (f ∷ fs) (suc i) at = by fs i at
 
-pub frame-at : (frames : List (Vec ℕ Global)) (places : List ℕ) (i p : ℕ) (frame : Vec ℕ Global) → i < length places → p ≡ get_or places i p
-    → Each (IsPlaceIn (contents frames)) places → p < length frames → frame ≡ get_or frames p frame
-    → (slice_get places i ≡ Some p) × (slice_get (contents frames) p ≡ Some frame.items)
-frame-at frames places i p frame within here there inside is =
-    let place : slice_get places i ≡ Some p = slice_get-get_or places i p within ∙ ap (λ (n : ℕ). Some n) (sym here) in
+pub frame-at : (frames : List (Vec ℕ Global)) (p : ℕ) (frame : Vec ℕ Global) → p < length frames → frame ≡ get_or frames p frame → slice_get (contents frames) p ≡ Some frame.items
+frame-at frames p frame inside is =
     let at : slice_get frames p ≡ Some frame = slice_get-get_or frames p frame inside ∙ ap (λ (v : Vec ℕ Global). Some v) (sym is) in
-    (place, slice_get-map (λ (v : Vec ℕ Global). v.items) frames p ∙ ap (option_map (λ (v : Vec ℕ Global). v.items)) at)
+    slice_get-map (λ (v : Vec ℕ Global). v.items) frames p ∙ ap (option_map (λ (v : Vec ℕ Global). v.items)) at
 
 -- the frame that is filled in next
 pub record Next (frames : List (List ℕ)) (places : List ℕ) (n i : ℕ) (bytes : List ℕ) : Type 0 where
@@ -84,14 +81,15 @@ pub record Next (frames : List (List ℕ)) (places : List ℕ) (n i : ℕ) (byte
   pub is_for : slice_get (placed frames (take n places)) i ≡ Some bytes
   pub fits : IsFrameBytes bytes
 
-pub next-frame : (frames : List (Vec ℕ Global)) (places : List ℕ) (n i p : ℕ) (frame : Vec ℕ Global) (bytes : List ℕ) → i < n → n ≤ length places
-    → Each (IsPlaceIn (contents frames)) places → Each IsFrameBytes (placed (contents frames) (take n places)) → p ≡ get_or places i p → frame ≡ get_or frames p frame → bytes ≡ frame.items
+pub next-frame : (frames : List (Vec ℕ Global)) (places : List ℕ) (n i : ℕ) (frame : Vec ℕ Global) (bytes : List ℕ) → i < n → n ≤ length places
+    → Each (IsPlaceIn (contents frames)) places → Each IsFrameBytes (placed (contents frames) (take n places)) → frame ≡ get_or frames (get_or places i 0) frame → bytes ≡ frame.items
     → Next (contents frames) places n i bytes
-next-frame frames places n i p frame bytes below most all few here is value =
-    let within : i < length places = omega (arith, below, most) in
-    let in' = each-at (IsPlaceIn (contents frames)) places i p all (slice_get-get_or places i p within ∙ ap (λ (n : ℕ). Some n) (sym here)) in
+next-frame frames places n i frame bytes below most all few is value =
+    let p = get_or places i 0 in
+    let place : slice_get places i ≡ Some p = slice_get-get_or places i 0 (omega (arith, below, most)) in
+    let there = each-at (IsPlaceIn (contents frames)) places i p all place in
     let long = length-map frames (λ (v : Vec ℕ Global). v.items) in
-    let at = frame-at frames places i p frame within here all (omega (arith, in', long)) is in
-    let found : slice_get (contents frames) p ≡ Some bytes = at.1 ∙ ap (λ (b : List ℕ). Some b) (sym value) in
-    let own = placed-at (contents frames) places n i p bytes all below at.0 found in
-    record { p = p; place = at.0; frame = found; is_for = own; fits = each-at IsFrameBytes (placed (contents frames) (take n places)) i bytes few own }
+    let at = frame-at frames p frame (omega (arith, there, long)) is in
+    let found : slice_get (contents frames) p ≡ Some bytes = at ∙ ap (λ (b : List ℕ). Some b) (sym value) in
+    let own = placed-at (contents frames) places n i p bytes all below place found in
+    record { p = p; place = place; frame = found; is_for = own; fits = each-at IsFrameBytes (placed (contents frames) (take n places)) i bytes few own }

@@ -26,14 +26,14 @@ loop-i-init c =
 pub fill-requires-clause-frame : goal.fill-requires-clause-frame
 fill-requires-clause-frame c =
     let below : c.loop-i.i < length c.args.lease.sizes = omega (arith, c.loop-i-test.true, c.loop-i.invariant.count) in
-    (next-frame c.args.frames.now c.args.places.now (length c.args.lease.sizes) c.loop-i.i c.index-places-i.result c.index-frames-index.result c.deref.result.now
-    below c.requires.enough c.requires.there c.requires.few (search rules) (search rules) c.deref.ensures.value).fits
+    (next-frame c.args.frames.now c.args.places.now (length c.args.lease.sizes) c.loop-i.i c.index-frames-places.result c.deref.result.now
+    below c.requires.enough c.requires.there c.requires.few (search rules) c.deref.ensures.value).fits
 
 pub fill-requires-clause-next : goal.fill-requires-clause-next
 fill-requires-clause-next c =
     let below : c.loop-i.i < length c.args.lease.sizes = omega (arith, c.loop-i-test.true, c.loop-i.invariant.count) in
-    let n = next-frame c.args.frames.now c.args.places.now (length c.args.lease.sizes) c.loop-i.i c.index-places-i.result c.index-frames-index.result c.deref.result.now
-    below c.requires.enough c.requires.there c.requires.few (search rules) (search rules) c.deref.ensures.value in
+    let n = next-frame c.args.frames.now c.args.places.now (length c.args.lease.sizes) c.loop-i.i c.index-frames-places.result c.deref.result.now
+    below c.requires.enough c.requires.there c.requires.few (search rules) c.deref.ensures.value in
     size-at c.args.lease.sizes (frames_for c.args.lease c.args.places.now (contents c.args.frames.now)) c.loop-i.i c.deref.result.now c.requires.sizes n.is_for
     ∙ sym (ap first_size c.loop-i.invariant.sizes)
 
@@ -42,8 +42,8 @@ loop-i-preserved c =
     let below : c.loop-i.i < length c.args.lease.sizes = omega (arith, c.loop-i-test.true, c.loop-i.invariant.count) in
     let places = c.args.places.now in
     let bytes = c.deref.result.now in
-    let n = next-frame c.args.frames.now places (length c.args.lease.sizes) c.loop-i.i c.index-places-i.result c.index-frames-index.result bytes
-    below c.requires.enough c.requires.there c.requires.few (search rules) (search rules) c.deref.ensures.value in
+    let n = next-frame c.args.frames.now places (length c.args.lease.sizes) c.loop-i.i c.index-frames-places.result bytes
+    below c.requires.enough c.requires.there c.requires.few (search rules) c.deref.ensures.value in
     let k = c.loop-i.invariant in
     let made = c.fill.ensures.lease in
     let size : slots_of_bytes bytes ≡ next_of c.loop-i.lease =
