@@ -6,11 +6,14 @@
 //!
 //! ```
 //! let mut session = Session::enter(alloc, rt, &fabric, pass, 1)?;
-//! let port = session.open(rt, &Name::parse("vale0:a")?, 4, 4, 0)?;
-//! session.put_frame(port, &frame);
-//! session.tx_sync(rt, port, &NoGate)?;
+//! if let Ok(port) = session.open(rt, &name, 4, 4, 0) {
+//!     session.put_frame(port, &frame);
+//!     let _sent = session.tx_sync(rt, port, &NoGate);
+//! }
 //! let pass = session.leave(rt);
 //! ```
+//!
+//! No `?` stands between `enter` and `leave`, since a session cannot be dropped.
 //!
 //! | netmap(4) | Here |
 //! |---|---|
