@@ -5,15 +5,11 @@
 ghost use Rattle.vale_fabric.specs.Fabrics.{IsPassIn};
 
 use anyhow::Result;
-use nm_io::NoGate;
-use nm_types::{Limits, Name, PortId, Side, SyncFault};
-use nm_user::Session;
+use nm_user::{Book, Fabric, Limits, Name, NoGate, Pass, PortId, Session, Side, SyncFault};
 use std::alloc::Global;
 use std::io::Print;
 use std::sync::Wait;
 use std::thread::{Threads, join};
-use vale_book::Book;
-use vale_fabric::{Fabric, Pass};
 
 /// A frame to all, from 02:00:00:00:00:01, of the type 88b5, with a letter behind that.
 fn frame(letter: u8) -> [u8; 15] {

@@ -21,6 +21,7 @@
 //! | NIOCREGIF: `nr_tx_slots`, `nr_rx_slots`, `nr_arg3` | `open`: `tx`, `rx`, `extra` |
 //! | NIOCTXSYNC, NIOCRXSYNC | `tx_sync`, `rx_sync` |
 //! | `head`, `cur`, `tail` of a `netmap_ring` | `ring`, `set_head`, `set_cur`; the tail is only read |
+//! | `nm_ring_next`, `nm_ring_space`, `nm_ring_empty`, `nm_tx_pending` | `Ring::next`, `space`, `is_empty`, `pending` |
 //! | a `netmap_slot` | `slot`, `slot_mut`, `put_slot` |
 //! | `NETMAP_BUF` | `bytes`, `bytes_mut`, `lend`, `write` |
 //! | `ni_bufs_head` | `extra_head`, `set_extra_head` |
@@ -70,8 +71,14 @@ mod watching;
 mod writing;
 
 pub use leaving::Detached;
+pub use nm_io::{Gate, NoGate, Stage};
 pub use nm_own::SlotPlace;
+pub use nm_ring::Ring;
+pub use nm_types::{
+    BadName, Batch, Counts, Limits, Name, NoMemory, OpenFault, PortId, RingFault, SessionId, Side,
+    Slot, SlotFault, SlotFlags, SlotWrite, StepFault, SyncFault, WatchFault,
+};
 pub use receiving::Received;
 pub use sending::Sent;
 pub use session::Session;
-pub use vale_fabric::{OwnGate, SharedGate};
+pub use vale_fabric::{Book, Fabric, OwnGate, Pass, SharedGate};
