@@ -1,8 +1,8 @@
 ghost use Rattle.std.specs.Prelude.{Some};
 
 use nm_io::{
-    Failed, FileShelf, Gate, MemoryShelf, MemorySink, NoGate, RawSink, RawWrite, ReadError,
-    Shelf, Sink, Stage, StdSink, append_all, put_all, read_all,
+    Failed, FileShelf, Gate, MemoryShelf, MemorySink, NoGate, RawSink, RawWrite, ReadError, Shelf,
+    Sink, Stage, StdSink, append_all, put_all, read_all,
 };
 use std::alloc::Global;
 use std::io::ErrorKind;

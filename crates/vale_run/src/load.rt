@@ -20,7 +20,7 @@ use vale_book::Book;
 use vale_captures::Inputs;
 use vale_entry::{Ask, Entry};
 use vale_gen::load;
-use vale_text::{Part, put_parts};
+use vale_strip::{Part, put_parts};
 
 /// The most digits of a number.
 const MAX_DIGITS: usize = 20;

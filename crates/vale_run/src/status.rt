@@ -7,7 +7,7 @@ ghost use Rattle.vale_run.specs.Status.{code_of, cause_text, capture_text, offse
 use nm_io::{Failed, Sink, put_all};
 use nm_types::LineCause;
 use pcap_io::PcapFault;
-use vale_text::{Part, put_parts};
+use vale_strip::{Part, put_parts};
 
 /// What passed its limit.
 #[derive(Clone, Copy, Debug, PartialEq, Eq)]

@@ -64,7 +64,9 @@ grows_none held a = record { count = 0; within = omega arith; held = sym (grown_
 pub grows_as : (old new : Option (List ℕ)) (p q a : List ℕ) → q ≡ p ++ a → GrowsByPrefix old new q → GrowsByPrefix old new (p ++ a)
 grows_as old new p q a is part = subst (GrowsByPrefix old new) is part
 
-pub ruleset gathering_lines = (gathered_behind, gathered_over, grows_none, grows_as, grows_longer, grows_more, grown-grown)
+-- what stands behind nothing is all
+pub behind_nothing : (p q a : List ℕ) → p ≡ [] → q ≡ p ++ a → q ≡ a
+behind_nothing p q a empty is = is ∙ ap (λ text. text ++ a) empty
 
 abbrev held_bytes : Option (List ℕ) → List ℕ
 held_bytes None = []
@@ -90,5 +92,3 @@ gathered_front old new p l m r a is out empty = record {
 -- a prefix of them
 pub grows_front : (old new : Option (List ℕ)) (p l r a : List ℕ) → l ++ r ≡ p ++ a → GrowsByPrefix old new l → GrowsByPrefix old new (p ++ a)
 grows_front old new p l r a is part = subst (GrowsByPrefix old new) is (grows_longer old new l r part)
-
-pub ruleset gathering_entries = (lines_gathered, gathered_behind, gathered_front, grows_front, grows_none)

@@ -1,20 +1,22 @@
 //! Reads a transcript, line by line. Each line is read field by field and written again: it is the
 //! line of its entry if it comes back.
-ghost use Rattle.std.specs.Prelude.{◌≡◌, ◌+◌, ◌-◌, ◌<◌, ◌≤◌, ◌^◌, ◌==◌, [], ◌∷◌, length, sum_by, drop, map, Some, IfOk, IfErr, IfSome, IsTrue, slice_index};
+ghost use Rattle.std.specs.Prelude.{◌≡◌, ◌+◌, ◌-◌, ◌<◌, ◌≤◌, ◌^◌, ◌==◌, [], length, sum_by, drop, Some, IfOk, IfErr, IfSome, slice_index};
 ghost use Rattle.std.specs.List.{position};
 ghost use Rattle.std.specs.Option.{IfNone};
-ghost use Rattle.std.specs.Str.{bytes_eq};
 ghost use Rattle.vale_entry.specs.Transcript.{newest};
+ghost use Rattle.vale_fields.specs.Lists.{words_of};
+ghost use Rattle.vale_fields.specs.Rows.{entry_of};
 ghost use Rattle.vale_text.specs.declared.reader.TextFault.TheVariants.{NoMemory as OutOfMemory};
-ghost use Rattle.vale_text.specs.Lines.{is_line_feed, IsCut, IsUncut, front_of, back_of, version_in, pool_in, most_pool_of, is_start, free_in, is_end, entry_in};
+ghost use Rattle.vale_text.specs.Lines.{is_line_feed, IsCut, IsUncut, front_of, version_in, pool_in, most_pool_of, is_start, free_in, is_end, entry_in};
 ghost use Rattle.vale_text.specs.Reading.{IsTextWith, BlamesText, IsReadTo, listed_in};
 
-use crate::rows::{EndLine, EntryLine, NEWEST, StartLine};
+use crate::rows::{EndLine, EntryLine, StartLine};
 use crate::transcript::{Lines, is_text};
 use nm_types::{MAX_POOL, NoMemory};
 use std::alloc::{AllocFailed, Global};
 use vale_entry::{Ask, Entry};
 use vale_fields::{cut_at, entry_of, is_printable, mark_in, short_of, words_of};
+use vale_strip::NEWEST;
 
 /// Why a text was not read.
 #[derive(Clone, Copy, Debug, PartialEq, Eq)]
@@ -136,6 +138,14 @@ fn is_end(scratch: &mut Lines, count: u32, line: &[u8]) -> Result<bool, NoMemory
     is_text(scratch, &EndLine { count, free }, line)
 }
 
+/// The entry that the words of a line say under its number, `None` if they say none.
+fn entry_said(alloc: Global, number: u32, line: &[u8]) -> Result<Option<Entry>, NoMemory>
+    ensures { IfOk result (λ entry. entry ≡ entry_of number (words_of (front_of 10 line.now))) }
+{
+    let words = words_of(alloc, cut_at(b'\n', line).0)?;
+    entry_of(alloc, number, &words)
+}
+
 /// The entry whose line this is in a text of this version, `None` if it is none's.
 fn entry_in(
     alloc: Global,
@@ -146,8 +156,7 @@ fn entry_in(
 ) -> Result<Option<Entry>, NoMemory>
     ensures { IfOk result (λ entry. entry ≡ entry_in version number line.now) }
 {
-    let words = words_of(alloc, cut_at(b'\n', line).0)?;
-    let Some(entry) = entry_of(alloc, number, &words)? else {
+    let Some(entry) = entry_said(alloc, number, line)? else {
         return Ok(None);
     };
     if !is_printable(number, &entry) {

@@ -4,17 +4,18 @@ ghost use Rattle.nm_io.specs.Counts.{Rose};
 ghost use Rattle.nm_io.specs.Held.{Writes};
 ghost use Rattle.vale_entry.specs.Transcript.{buffers_text, side_word, sides_word, fault_words, ask_words, reply_words, entry_line, start_line, end_line, newest};
 ghost use Rattle.vale_entry.specs.declared.entry.Ask.TheVariants.{Done, Finish, Grant, Reset, Send, Sync, Watch};
-ghost use Rattle.vale_entry.specs.declared.entry.Reply.TheVariants.{Refused, Offered, Shared, Gave, Counted};
-ghost use Rattle.vale_text.specs.Failures.{Puts, PutsWords, CountsFailures};
-ghost use Rattle.vale_text.specs.Pieces.{piece_text, pieces_text};
-ghost use Rattle.vale_text.specs.declared.pieces.Piece.TheVariants.{Number as NumberPiece};
+ghost use Rattle.vale_entry.specs.declared.entry.Reply.TheVariants.{Refused, Offered, Shared, Gave, Took, Counted};
+ghost use Rattle.vale_strip.specs.Failures.{Puts, PutsWords, CountsFailures};
+ghost use Rattle.vale_strip.specs.Pieces.{piece_text, pieces_text};
+ghost use Rattle.vale_strip.specs.declared.pieces.Piece.TheVariants.{Number as NumberPiece};
 
-use crate::pieces::Piece::{Buffers, Destinations, Frames, Number, Taken, Word};
-use crate::pieces::{Part, Piece, put_parts, put_words};
-use crate::strip::{Strip, make_room, put_byte, put_number, put_strip};
 use nm_io::{Failed, Sink, Text};
 use nm_types::{Batch, Chain, Counts, LeaseId, Name, OpenFault, PortId, Side, Sides, SyncFault};
-use vale_entry::{Ask, Dests, Entry, Numbers, Reply};
+use vale_entry::{Ask, Dests, Entry, Items, Numbers, Reply};
+use vale_strip::Piece::{Buffers, Destinations, Frames, Number, Taken, Word};
+use vale_strip::{
+    NEWEST, Part, Piece, Strip, make_room, put_byte, put_number, put_parts, put_strip, put_words,
+};
 
 /// A number of 32 bits as a word.
 fn short(number: u32) -> Piece<'static>
@@ -48,9 +49,6 @@ fn sides_word(sides: Sides) -> Piece<'static>
         Sides::TR => Word(b"tr"),
     }
 }
-
-/// The version of the transcripts that are written.
-pub(crate) const NEWEST: u32 = 2;
 
 /// The first line of a transcript.
 #[derive(Clone, Copy)]
@@ -110,21 +108,62 @@ impl Text for EndLine {
     }
 }
 
+/// Writes an answer of one word.
+fn put_answer<K: Sink>(out: &mut K, strip: &mut Strip, word: &[u8]) -> Result<(), Failed>
+    ensures gathers { PutsWords K.Sink out.old out.new strip.old strip.new result (codes "=" ∷ word.now ∷ []) }
+    ensures counts { CountsFailures K.Sink out.old out.new result }
+{
+    put_words(out, strip, &[Word(b"="), Word(word)])
+}
+
+/// Writes an answer of a word and a number.
+fn put_answer_with<K: Sink>(
+    out: &mut K,
+    strip: &mut Strip,
+    word: &[u8],
+    number: u32,
+) -> Result<(), Failed>
+    ensures gathers { PutsWords K.Sink out.old out.new strip.old strip.new result
+        (codes "=" ∷ word.now ∷ decimal number ∷ []) }
+    ensures counts { CountsFailures K.Sink out.old out.new result }
+{
+    put_words(out, strip, &[Word(b"="), Word(word), short(number)])
+}
+
+/// Writes an answer of a word and two numbers.
+fn put_answer_with_two<K: Sink>(
+    out: &mut K,
+    strip: &mut Strip,
+    word: &[u8],
+    first: u32,
+    second: u32,
+) -> Result<(), Failed>
+    ensures gathers { PutsWords K.Sink out.old out.new strip.old strip.new result
+        (codes "=" ∷ word.now ∷ decimal first ∷ decimal second ∷ []) }
+    ensures counts { CountsFailures K.Sink out.old out.new result }
+{
+    put_words(
+        out,
+        strip,
+        &[Word(b"="), Word(word), short(first), short(second)],
+    )
+}
+
 fn put_opening<K: Sink>(out: &mut K, strip: &mut Strip, fault: &OpenFault) -> Result<(), Failed>
     ensures gathers { PutsWords K.Sink out.old out.new strip.old strip.new result (reply_words (Refused fault.now)) }
     ensures counts { CountsFailures K.Sink out.old out.new result }
 {
-    let is = Word(b"=");
     match *fault {
-        OpenFault::BadSize => put_words(out, strip, &[is, Word(b"badsize")]),
-        OpenFault::SwitchesFull => put_words(out, strip, &[is, Word(b"switchesfull")]),
-        OpenFault::PortsFull => put_words(out, strip, &[is, Word(b"portsfull")]),
-        OpenFault::NameTaken => put_words(out, strip, &[is, Word(b"nametaken")]),
+        OpenFault::BadSize => put_answer(out, strip, b"badsize"),
+        OpenFault::SwitchesFull => put_answer(out, strip, b"switchesfull"),
+        OpenFault::PortsFull => put_answer(out, strip, b"portsfull"),
+        OpenFault::NameTaken => put_answer(out, strip, b"nametaken"),
         OpenFault::NoBuffers { want, have } => {
-            let (want, have) = (short(want), short(have));
-            put_words(out, strip, &[is, Word(b"nobuffers"), want, have])
+            put_answer_with_two(out, strip, b"nobuffers", want, have)
         }
-        OpenFault::RecordFull { .. } | OpenFault::NoMemory => put_words(out, strip, &[is]),
+        OpenFault::RecordFull { .. } | OpenFault::NoMemory => {
+            put_words(out, strip, &[Word(b"=")])
+        }
     }
 }
 
@@ -143,6 +182,14 @@ fn put_with_port<K: Sink>(
 {
     let port = short(port.0);
     put_words(out, strip, &[short(session), Word(word), port, last])
+}
+
+/// Writes a word and a number.
+fn put_one<K: Sink>(out: &mut K, strip: &mut Strip, word: &[u8], number: u64) -> Result<(), Failed>
+    ensures gathers { PutsWords K.Sink out.old out.new strip.old strip.new result (word.now ∷ decimal number ∷ []) }
+    ensures counts { CountsFailures K.Sink out.old out.new result }
+{
+    put_words(out, strip, &[Word(word), Number(number)])
 }
 
 /// Writes a word and two numbers.
@@ -188,7 +235,7 @@ fn put_fault<K: Sink>(out: &mut K, strip: &mut Strip, fault: &SyncFault) -> Resu
     match *fault {
         SyncFault::HeadOut { head, from, to } => put_three(out, strip, b"headout", head, from, to),
         SyncFault::CurOut { cur, from, to } => put_three(out, strip, b"curout", cur, from, to),
-        SyncFault::Indirect { slot } => put_words(out, strip, &[Word(b"indirect"), short(slot)]),
+        SyncFault::Indirect { slot } => put_one(out, strip, b"indirect", slot as u64),
         SyncFault::IndexOut { slot, idx } => put_two(out, strip, b"indexout", slot, idx),
         SyncFault::NotHeld { slot, idx } => put_two(out, strip, b"notheld", slot, idx),
         SyncFault::Doubled { slot, idx } => put_two(out, strip, b"doubled", slot, idx),
@@ -196,14 +243,13 @@ fn put_fault<K: Sink>(out: &mut K, strip: &mut Strip, fault: &SyncFault) -> Resu
             put_three(out, strip, b"unannounced", slot, idx, was)
         }
         SyncFault::LongLen { slot, len } => put_two(out, strip, b"longlen", slot, len as u32),
-        SyncFault::Fragment { slot } => put_words(out, strip, &[Word(b"fragment"), short(slot)]),
+        SyncFault::Fragment { slot } => put_one(out, strip, b"fragment", slot as u64),
         SyncFault::PeerGone | SyncFault::RecordFull { .. } | SyncFault::NoMemory => {
             put_words(out, strip, &[])
         }
     }
 }
 
-#[tactic(auto, using(crate::proofs::Strips::strips))]
 fn put_reset<K: Sink>(
     out: &mut K,
     strip: &mut Strip,
@@ -218,6 +264,34 @@ fn put_reset<K: Sink>(
 {
     put_with_port(out, strip, session, b"reset", port, side_word(side))?;
     put_fault(out, strip, fault)
+}
+
+/// Writes what a session does, without a port.
+fn put_call<K: Sink>(
+    out: &mut K,
+    strip: &mut Strip,
+    session: u32,
+    word: &[u8],
+) -> Result<(), Failed>
+    ensures gathers { PutsWords K.Sink out.old out.new strip.old strip.new result (decimal session ∷ word.now ∷ []) }
+    ensures counts { CountsFailures K.Sink out.old out.new result }
+{
+    put_words(out, strip, &[short(session), Word(word)])
+}
+
+/// Writes what a session does with one of its ports.
+fn put_port_call<K: Sink>(
+    out: &mut K,
+    strip: &mut Strip,
+    session: u32,
+    word: &[u8],
+    port: PortId,
+) -> Result<(), Failed>
+    ensures gathers { PutsWords K.Sink out.old out.new strip.old strip.new result
+        (decimal session ∷ word.now ∷ decimal port.0 ∷ []) }
+    ensures counts { CountsFailures K.Sink out.old out.new result }
+{
+    put_words(out, strip, &[short(session), Word(word), short(port.0)])
 }
 
 fn put_open<K: Sink>(
@@ -356,9 +430,8 @@ fn put_other_ask<K: Sink>(
     ensures gathers { PutsWords K.Sink out.old out.new strip.old strip.new result (ask_words version session ask.now) }
     ensures counts { CountsFailures K.Sink out.old out.new result }
 {
-    let s = short(session);
     match ask {
-        Ask::Enter { user } => put_words(out, strip, &[Word(b"enter"), Number(*user)]),
+        Ask::Enter { user } => put_one(out, strip, b"enter", *user),
         Ask::Open {
             name,
             tx,
@@ -378,11 +451,11 @@ fn put_other_ask<K: Sink>(
             listed(version, back),
         ),
         Ask::Reset { port, side, fault } => put_reset(out, strip, session, *port, *side, fault),
-        Ask::Shut { port } => put_words(out, strip, &[s, Word(b"shut"), short(port.0)]),
+        Ask::Shut { port } => put_port_call(out, strip, session, b"shut", *port),
         Ask::Finish { port, bufs, chain } => put_finish(
             out, strip, version, session, *port, bufs, *chain,
         ),
-        Ask::Leave { .. } => put_words(out, strip, &[s, Word(b"leave")]),
+        Ask::Leave { .. } => put_call(out, strip, session, b"leave"),
         Ask::PutKept { port, offered } => {
             put_with_port(out, strip, session, b"put", *port, short(*offered))
         }
@@ -399,7 +472,7 @@ fn put_other_ask<K: Sink>(
             target,
             sides,
         } => put_watch(out, strip, session, *monitor, target, sides_word(*sides)),
-        Ask::Stat { port } => put_words(out, strip, &[s, Word(b"stat"), short(port.0)]),
+        Ask::Stat { port } => put_port_call(out, strip, session, b"stat", *port),
         Ask::Put { .. } => put_words(out, strip, &[]),
     }
 }
@@ -521,6 +594,24 @@ fn put_gave<K: Sink>(out: &mut K, strip: &mut Strip, count: u32, to: &Dests) -> 
     put_words(out, strip, &[Destinations(to.as_slice())])
 }
 
+/// Writes what a put took, and where it went.
+fn put_took<'a, K: Sink>(
+    out: &mut K,
+    strip: &mut Strip,
+    items: &'a Items,
+    to: &'a Dests,
+) -> Result<(), Failed>
+    ensures gathers { PutsWords K.Sink out.old out.new strip.old strip.new result (reply_words (Took items.now to.now)) }
+    ensures counts { CountsFailures K.Sink out.old out.new result }
+{
+    let (items, to) = (Taken(items.as_slice()), Destinations(to.as_slice()));
+    put_words(
+        out,
+        strip,
+        &[Word(b"="), Word(b"took"), items, Word(b"to"), to],
+    )
+}
+
 /// Writes the answer, where it is none of those to the calls that a frame takes.
 #[inline(never)]
 fn put_other_reply<K: Sink>(out: &mut K, strip: &mut Strip, reply: &Reply) -> Result<(), Failed>
@@ -528,36 +619,17 @@ fn put_other_reply<K: Sink>(out: &mut K, strip: &mut Strip, reply: &Reply) -> Re
     ensures counts { CountsFailures K.Sink out.old out.new result }
 {
     match reply {
-        Reply::Opened => put_words(out, strip, &[Word(b"="), Word(b"ok")]),
+        Reply::Opened => put_answer(out, strip, b"ok"),
         Reply::Refused { fault } => put_opening(out, strip, fault),
         Reply::Offered { short, lone, to } => put_offered(out, strip, *short, *lone, to),
         Reply::Shared { given, full, gone } => put_shared(out, strip, *given, *full, *gone),
         Reply::Gave { count, to } => put_gave(out, strip, *count, to),
-        Reply::Took { items, to } => {
-            let (items, to) = (Taken(items.as_slice()), Destinations(to.as_slice()));
-            put_words(
-                out,
-                strip,
-                &[Word(b"="), Word(b"took"), items, Word(b"to"), to],
-            )
-        }
-        Reply::PeerGone => put_words(out, strip, &[Word(b"="), Word(b"peergone")]),
-        Reply::Unread { count } => put_words(
-            out,
-            strip,
-            &[Word(b"="), Word(b"unread"), short(*count)],
-        ),
-        Reply::Watching { target } => put_words(
-            out,
-            strip,
-            &[Word(b"="), Word(b"ok"), short(target.0)],
-        ),
-        Reply::NoTarget => put_words(out, strip, &[Word(b"="), Word(b"notarget")]),
-        Reply::Watched { by } => put_words(
-            out,
-            strip,
-            &[Word(b"="), Word(b"watched"), short(by.0)],
-        ),
+        Reply::Took { items, to } => put_took(out, strip, items, to),
+        Reply::PeerGone => put_answer(out, strip, b"peergone"),
+        Reply::Unread { count } => put_answer_with(out, strip, b"unread", *count),
+        Reply::Watching { target } => put_answer_with(out, strip, b"ok", target.0),
+        Reply::NoTarget => put_answer(out, strip, b"notarget"),
+        Reply::Watched { by } => put_answer_with(out, strip, b"watched", by.0),
         Reply::Counted { counts } => put_counts(out, strip, counts),
         Reply::Made | Reply::LeasesOut { .. } => put_words(out, strip, &[]),
     }
@@ -578,7 +650,6 @@ fn put_reply<K: Sink>(out: &mut K, strip: &mut Strip, reply: &Reply) -> Result<(
 }
 
 /// Writes what was asked, and the answer.
-#[tactic(auto, using(crate::proofs::Strips::strips))]
 fn put_entry<K: Sink>(
     out: &mut K,
     strip: &mut Strip,
@@ -620,7 +691,7 @@ pub(crate) fn put_entry_line<K: Sink>(
 }
 
 /// Writes the line of an entry under its number, by way of a strip that is empty again then.
-#[tactic(auto, using(crate::proofs::Strips::strips))]
+#[tactic(auto, using(vale_strip::proofs::Strips::strips))]
 fn put_whole_line<K: Sink>(
     out: &mut K,
     strip: &mut Strip,

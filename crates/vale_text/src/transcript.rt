@@ -1,20 +1,20 @@
 //! Whole transcripts: their lines on their way to a sink.
-ghost use Rattle.std.specs.Prelude.{◌≡◌, ◌≤◌, ◌<◌, ◌-◌, ◌+◌, ◌^◌, ◌++◌, ℕ, List, [], length, take, Some, IfOk, IfErr, OnOk, OnErr};
+ghost use Rattle.std.specs.Prelude.{◌≡◌, ◌≤◌, ◌<◌, ◌-◌, ◌+◌, ◌^◌, ◌++◌, [], length, take, Some, IfOk, IfErr, OnOk, OnErr};
 ghost use Rattle.std.specs.Str.{bytes_eq};
 ghost use Rattle.nm_io.specs.Counts.{Rose};
 ghost use Rattle.nm_io.specs.Gathered.{Gathers};
-ghost use Rattle.nm_io.specs.Held.{grown, Writes};
+ghost use Rattle.nm_io.specs.Held.{Writes};
 ghost use Rattle.vale_entry.specs.Transcript.{newest, start_line, entry_line, entry_lines, end_line, text_of};
 ghost use Rattle.vale_text.specs.declared.transcript.PutError.TheVariants.{Failed as PutFailed, NoMemory as OutOfMemory};
 ghost use Rattle.vale_text.specs.Written.{LineBytes, BlamesSink};
 
-use crate::rows::{EndLine, EntryLine, NEWEST, StartLine, put_entry_line};
-use crate::strip::{Strip, put_strip};
+use crate::rows::{EndLine, EntryLine, StartLine, put_entry_line};
 use nm_io::{Failed, Sink, Text, put_all};
 use nm_types::NoMemory;
 use std::alloc::Global;
 use std::marker::Model;
 use vale_entry::Entry;
+use vale_strip::{NEWEST, Strip, put_strip};
 
 /// How many bytes are gathered before they go out.
 const PAGE_BYTES: usize = 32_768;
@@ -132,7 +132,6 @@ pub(crate) fn is_text<T: Text>(
 }
 
 /// Writes a line by way of those gathered, which go out if they are many.
-#[tactic(auto, using(crate::proofs::Entries::gathering_lines))]
 fn put_line<K: Sink, T: Text>(out: &mut K, lines: &mut Lines, line: &T) -> Result<(), PutError>
     ensures gathers { Gathers (K.holds out.old) (K.holds out.new) lines.old.bytes lines.new.bytes
         result (T.text line.now) }
@@ -147,7 +146,6 @@ fn put_line<K: Sink, T: Text>(out: &mut K, lines: &mut Lines, line: &T) -> Resul
 }
 
 /// Writes the line of an entry in memory by way of a strip, or says that there is none left.
-#[tactic(auto, using(crate::proofs::Entries::gathering_entries))]
 fn gather_entry(lines: &mut Lines, strip: &mut Strip, line: &EntryLine<'_>) -> Result<(), NoMemory>
     ensures { OnOk result (lines.new.bytes ++ strip.new ≡ (lines.old.bytes ++ strip.old)
         ++ entry_line line.now.version line.now.number line.now.entry.now) }
@@ -170,7 +168,6 @@ fn gather_strip(lines: &mut Lines, strip: &mut Strip) -> Result<(), NoMemory>
 
 /// Writes the line of an entry by way of a strip, and of the lines gathered, which go out if they are
 /// many.
-#[tactic(auto, using(crate::proofs::Entries::gathering_entries))]
 fn put_entry<K: Sink>(
     out: &mut K,
     lines: &mut Lines,
@@ -216,7 +213,6 @@ fn put_entries<K: Sink>(out: &mut K, lines: &mut Lines, entries: &[Entry]) -> Re
 }
 
 /// Writes the first line, which goes out by itself.
-#[tactic(auto, using(crate::proofs::Entries::gathering_lines))]
 fn put_start<K: Sink>(out: &mut K, lines: &mut Lines, pool: u32) -> Result<(), PutError>
     requires { lines.old.bytes ≡ [] }
     ensures writes { Writes (K.holds out.old) (K.holds out.new) result (start_line newest pool) }
@@ -236,7 +232,6 @@ fn put_start<K: Sink>(out: &mut K, lines: &mut Lines, pool: u32) -> Result<(), P
 }
 
 /// Writes the entries' lines and the last one.
-#[tactic(auto, using(crate::proofs::Entries::gathering_lines))]
 fn put_rest<K: Sink>(
     out: &mut K,
     lines: &mut Lines,

@@ -1,6 +1,6 @@
 use Rattle.std.proofs.lemmas.Result.{err_from_is_err_and}
 use Rattle.vale_entry.specs.Transcript.{ask_words, reply_words}
-use Rattle.vale_text.proofs.Strips.{words_after, words_fail}
+use Rattle.vale_strip.proofs.Strips.{words_after, words_fail}
 use Rattle.vale_text.proofs.rows.put_entry.Goals as goal
 
 pub returns-in_err-put_ask-clause-gathers : goal.returns-in_err-put_ask-clause-gathers

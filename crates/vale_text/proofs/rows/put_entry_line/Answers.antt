@@ -4,7 +4,7 @@ use Rattle.nm_io.specs.Gathered.{Gathered}
 use Rattle.nm_io.proofs.Gathering.{gathered_more, gathered_fails, grows_past}
 use Rattle.vale_entry.specs.declared.entry.Entry.{Entry}
 use Rattle.vale_entry.specs.Transcript.{ask_words, reply_words, words_text}
-use Rattle.vale_text.proofs.Strips.{gathers_after}
+use Rattle.vale_strip.proofs.Strips.{gathers_after}
 use Rattle.vale_text.proofs.rows.put_entry_line.Goals as goal
 
 -- what stands behind the number

@@ -1,7 +1,7 @@
 use Rattle.std.proofs.Common.{List, ℕ, [], ◌∷◌, codes, decimal}
 use Rattle.std.proofs.lemmas.Result.{err_from_is_err_and}
 use Rattle.vale_entry.specs.Transcript.{dests_text}
-use Rattle.vale_text.proofs.Strips.{words_after, words_fail}
+use Rattle.vale_strip.proofs.Strips.{words_after, words_fail}
 use Rattle.vale_text.proofs.rows.put_offered.Goals as goal
 
 pub returns-in_err-put_left-clause-gathers : goal.returns-in_err-put_left-clause-gathers

@@ -3,7 +3,7 @@ use Rattle.std.proofs.lemmas.Result.{err_from_is_err_and}
 use Rattle.nm_types.specs.declared.id.PortId.{PortId}
 use Rattle.nm_types.specs.declared.id.Side.{Side}
 use Rattle.vale_entry.specs.Transcript.{side_word, fault_words}
-use Rattle.vale_text.proofs.Strips.{words_after, words_fail}
+use Rattle.vale_strip.proofs.Strips.{words_after, words_fail}
 use Rattle.vale_text.proofs.rows.put_reset.Goals as goal
 
 abbrev ring_words : ℕ → PortId → Side → List (List ℕ)

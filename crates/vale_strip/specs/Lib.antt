@@ -1,0 +1,4 @@
+pub mod Failures
+pub mod Pieces
+pub mod Placed
+pub mod Spans
