@@ -1,5 +1,5 @@
 -- A round of a line, in which frames are granted, filled, completed and synced.
-use Rattle.std.proofs.Common.{ℕ, zero, suc, ◌≡◌, ◌-◌, ◌≤◌, List, [], ◌∷◌, ◌++◌, length, take, drop, map, replicate, Some, inl, inr, refl, sym, ◌∙◌, ap, arith}
+use Rattle.std.proofs.Common.{ℕ, zero, suc, ◌≡◌, ◌-◌, ◌≤◌, List, [], ◌∷◌, ◌++◌, length, take, drop, map, replicate, Some, inl, inr, refl, sym, subst, ◌∙◌, ap, arith}
 use Rattle.std.specs.Prelude.{All, sum, nat_le, IsPermutation, ◌==◌}
 use Rattle.std.proofs.lemmas.Bool.{cases_Bool, eq-eqb}
 use Rattle.std.proofs.lemmas.List.{append-nil, append_assoc, length-append, length-take, length-drop, length-map, map-append, take-append-drop, length-take-le}
@@ -198,9 +198,9 @@ pub record IsGranted (line after : LineState) (lease : Leased) (id : LeaseId) : 
   pub within : length lease.empty ≤ length line.idle
   pub after_is : after ≡ with_lease id (length lease.empty) line
 
-pub round-granted : (line after : LineState) (lease : Leased) (id : LeaseId) (to : ℕ) → lease ≡ leased id to (granted_sizes (replicate 64 1) line) line
+granted-ones : (line after : LineState) (lease : Leased) (id : LeaseId) (to : ℕ) → lease ≡ leased id to (granted_sizes (replicate 64 1) line) line
     → buffer_count lease ≡ sum (granted_sizes (replicate 64 1) line) → after ≡ with_lease id (sum (granted_sizes (replicate 64 1) line)) line → IsGranted line after lease id
-round-granted line after lease id to is count lot =
+granted-ones line after lease id to is count lot =
     let given = granted_sizes (replicate 64 1) line in
     let ones = fitting-ones (space_of line) 64 in
     let few = ones.few in
@@ -221,6 +221,15 @@ round-granted line after lease id to is count lot =
       within = omega (arith, taken, part, n);
       after_is = lot ∙ ap (λ (k : ℕ). with_lease id k line) (sym n);
     }
+
+-- the same of a want of frames of one slot each
+pub round-granted : (want : List ℕ) → want ≡ replicate 64 1 → (line after : LineState) (lease : Leased) (id : LeaseId) (to : ℕ) → lease ≡ leased id to (granted_sizes want line) line
+    → buffer_count lease ≡ sum (granted_sizes want line) → after ≡ with_lease id (sum (granted_sizes want line)) line → IsGranted line after lease id
+round-granted want ones line after lease id to is count lot =
+    granted-ones line after lease id to
+    (subst (λ (sizes : List ℕ). lease ≡ leased id to (granted_sizes sizes line) line) ones is)
+    (subst (λ (sizes : List ℕ). buffer_count lease ≡ sum (granted_sizes sizes line)) ones count)
+    (subst (λ (sizes : List ℕ). after ≡ with_lease id (sum (granted_sizes sizes line)) line) ones lot)
 
 pub round-lot : (line after : LineState) (lease full : Leased) (id : LeaseId) → line.lots ≡ [] → IsGranted line after lease id → full.id ≡ lease.id → buffer_count full ≡ length lease.empty
     → slots_out full.id after.lots ≡ Some (buffer_count full)

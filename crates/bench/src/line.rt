@@ -87,7 +87,8 @@ fn play_round(
         gots,
         mut bufs,
     } = rooms;
-    let Some(mut lease) = line.grant(id, PortId(0), lease, &Sizes::ones(FRAMES as u32)) else {
+    let want = Sizes::ones(FRAMES as u32);
+    let Some(mut lease) = line.grant(id, PortId(0), lease, &want) else {
         gots.destroy_empty();
         bufs.destroy_empty();
         return (0, back);
