@@ -1,4 +1,4 @@
-use Rattle.std.proofs.Common.{arith, rules, take_all}
+use Rattle.std.proofs.Common.{arith, take_all}
 use Rattle.std.proofs.lemmas.Result.{err_from_is_err_and}
 use Rattle.vale_entry.specs.Transcript.{hex_byte}
 use Rattle.vale_strip.proofs.Strips.{gathered_nowhere, part_more, part_fails}
