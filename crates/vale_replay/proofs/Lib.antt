@@ -20,6 +20,7 @@ pub mod Sides
 pub mod Comers
 pub mod Sums
 pub mod Owned
+pub mod OwnedByName
 pub mod Leaving
 pub mod Parts
 pub mod Promises

@@ -1,6 +1,6 @@
 -- The five owners of a buffer while a script is played: the pool, a lease, the kernel side of a
 -- ring, a slot of a user, the list of a port's extra buffers.
-use Rattle.std.specs.Prelude.{ℕ, not, ◌==◌, ◌≡◌, if◌then◌else◌, List, [], ◌∷◌, ◌++◌, length, map, filter, flat_map, replicate, count_by, take, Option, Some, None}
+use Rattle.std.specs.Prelude.{ℕ, true, false, not, ◌==◌, ◌≡◌, if◌then◌else◌, List, [], ◌∷◌, ◌++◌, length, map, filter, flat_map, replicate, count_by, take, slice_get, Option, Some, None}
 use Rattle.std.specs.List.{range_with_len, AllByRecursion}
 use Rattle.std.specs.Option.{option_map_or}
 use Rattle.nm_types.specs.declared.id.SessionId.{SessionId}
@@ -9,7 +9,7 @@ use Rattle.nm_types.specs.Positions.{is_user_slot}
 use Rattle.nm_types.specs.OwnPorts.{OwnRing, OwnPort, buffer_in}
 use Rattle.vale_entry.specs.declared.entry.Entry.{Entry}
 use Rattle.vale_entry.specs.World.{Port, Lot}
-use Rattle.vale_entry.specs.Holdings.{PortBuffers, is_buffer_index, buffers_of_session}
+use Rattle.vale_entry.specs.Holdings.{PortBuffers, is_buffer_index, contains, buffers_of_session}
 use Rattle.vale_entry.specs.Legal.{Standing, standing_of}
 use Rattle.vale_own.specs.Side.{buffers_on}
 use Rattle.vale_script.specs.Script.{Program}
@@ -112,6 +112,40 @@ abbrev pub BuffersAlwaysHaveOneOwner : Type 0
 BuffersAlwaysHaveOneOwner =
     (program : Program) (captures : Captures) (history : List Entry) (nows : Cast)
     → IsUnderWay program captures history nows → AreAlwaysOwnedOnce program captures history
+
+-- each buffer in this list has this owner, and no other
+abbrev pub AreOwnedBy : Standing → List Machine → Owner → List ℕ → Type 0
+AreOwnedBy s users owner buffers = (b : ℕ) → contains b buffers ≡ true → owners_of s users b ≡ owner ∷ []
+
+-- Which owner a buffer has, by where it lies: a free one is the pool's; of a receive ring the idle ones and
+-- those of a lot that is done are the kernel side's, and those of any other lot the lease's; a transmit ring's
+-- places are its user's up to the pushed ones, which are the kernel side's; what was received is in slots of
+-- the user, and a port's extra buffers are in its list.
+pub record AreOwnedByName (s : Standing) (users : List Machine) : Type 0 where
+  pub free : AreOwnedBy s users Pool s.holdings.free
+  pub idle : (at : ℕ) (port : Port) (held : PortBuffers) → slice_get s.world.ports at ≡ Some port → slice_get s.holdings.ports at ≡ Some held
+      → AreOwnedBy s users KernelSlot held.idle
+  pub leased : (at : ℕ) (port : Port) (held : PortBuffers) → slice_get s.world.ports at ≡ Some port → slice_get s.holdings.ports at ≡ Some held
+      → (n : ℕ) (lot : Lot) (buffers : List ℕ) → slice_get port.line n ≡ Some lot → slice_get held.lots n ≡ Some buffers
+      → lot.is_done ≡ false → AreOwnedBy s users Lease buffers
+  pub published : (at : ℕ) (port : Port) (held : PortBuffers) → slice_get s.world.ports at ≡ Some port → slice_get s.holdings.ports at ≡ Some held
+      → (n : ℕ) (lot : Lot) (buffers : List ℕ) → slice_get port.line n ≡ Some lot → slice_get held.lots n ≡ Some buffers
+      → lot.is_done ≡ true → AreOwnedBy s users KernelSlot buffers
+  pub writable : (at : ℕ) (user : Machine) → slice_get users at ≡ Some user → (n : ℕ) (p : OwnPort) → slice_get user.own.ports n ≡ Some p
+      → (r : OwnRing) → p.tx ≡ Some r → AreOwnedBy s users UserSlot (user_places r)
+  pub pushed : (at : ℕ) (user : Machine) → slice_get users at ≡ Some user → (n : ℕ) (p : OwnPort) → slice_get user.own.ports n ≡ Some p
+      → (r : OwnRing) → p.tx ≡ Some r → AreOwnedBy s users KernelSlot (kernel_places r)
+  pub received : (at : ℕ) (user : Machine) → slice_get users at ≡ Some user → (n : ℕ) (p : OwnPort) → slice_get user.own.ports n ≡ Some p
+      → AreOwnedBy s users UserSlot p.rx.held
+  pub extra : (at : ℕ) (user : Machine) → slice_get users at ≡ Some user → (n : ℕ) (p : OwnPort) → slice_get user.own.ports n ≡ Some p
+      → AreOwnedBy s users ExtraList p.extra
+
+-- so it is wherever the users of a history are on their way
+abbrev pub BuffersAreOwnedByName : Type 0
+BuffersAreOwnedByName =
+    (program : Program) (captures : Captures) (history : List Entry) (nows : Cast)
+    → IsUnderWay program captures history nows
+    → AreOwnedByName (standing_of program.pool history) nows.users
 
 -- once a script is played to its end the pool owns all its buffers
 abbrev pub BuffersComeBack : Type 0

@@ -1,5 +1,5 @@
 -- How runs end, worked: the line of each status, and what limits say.
-use Rattle.std.specs.Prelude.{ℕ, ◌≡◌, ◌+◌, ◌≤◌, List, [], ◌∷◌, length, map, codes, Option, Some, None, refl}
+use Rattle.std.specs.Prelude.{ℕ, true, ◌≡◌, ◌+◌, ◌≤◌, List, [], ◌∷◌, length, map, codes, Option, Some, None, refl}
 use Rattle.std.specs.Fmt.{digits}
 use Rattle.std.specs.Str.Lines.{lines}
 use Rattle.std.specs.List.{AllByRecursion}
@@ -8,22 +8,26 @@ use Rattle.nm_types.specs.declared.fault.LineCause.TheVariants.{Word, Count, Num
 use Rattle.nm_types.specs.declared.fault.Part.{Part}
 use Rattle.nm_types.specs.declared.limits.Limits.{Limits}
 use Rattle.nm_io.specs.Files.{Files}
+use Rattle.nm_io.specs.Held.{grown, GrowsByPrefix}
 use Rattle.pcap_io.specs.declared.fault.PcapFault.TheVariants as pcap
 use Rattle.vale_entry.specs.declared.entry.Entry.{Entry}
 use Rattle.vale_entry.specs.Fate.{Pending, fates_at}
+use Rattle.vale_entry.specs.Transcript.{text_of}
 use Rattle.vale_words.specs.Words.{number_in}
 use Rattle.vale_script.specs.Script.{Program}
 use Rattle.vale_captures.specs.Counting.{counts_of, frames_played}
+use Rattle.vale_captures.specs.declared.inputs.InputFault.{InputFault}
 use Rattle.vale_captures.specs.Inputs.{InputFile}
+use Rattle.vale_captures.specs.Outputs.{OutputFile, all_appended}
 use Rattle.vale_replay.specs.Replay.{Cast}
 use Rattle.vale_run.specs.declared.status.What.{What}
 use Rattle.vale_run.specs.declared.status.What.TheVariants.{Script, Lines, Counts, Inputs, Frames, Entries, Bytes, Text}
 use Rattle.vale_run.specs.declared.status.Status.{Status}
 use Rattle.vale_run.specs.declared.status.Status.TheVariants.{Done, Usage, BadScript, WriteFault, Over, NoMemory}
-use Rattle.vale_run.specs.Delivery.{Delivers}
-use Rattle.vale_run.specs.Load.{load_number, load_line}
-use Rattle.vale_run.specs.Migrate.{text_name}
-use Rattle.vale_run.specs.Run.{script_name, IsAccepted, IsHistoryOf, HistoryOf, StopsFull}
+use Rattle.vale_run.specs.Delivery.{HaveOneOwner, Delivers}
+use Rattle.vale_run.specs.Load.{load_number, load_line, LoadOf}
+use Rattle.vale_run.specs.Migrate.{text_name, Migrated, new_text, EndsText}
+use Rattle.vale_run.specs.Run.{Io, CountsRise, HasRisen, WritesNothing, script_name, IsScript, IsAccepted, StopsAtInput, IsHistoryOf, HistoryOf, WritesWhole, WritesText, WritesSaved, StopsFull}
 use Rattle.vale_run.specs.Status.{code_of, offset_of, capture_text, status_text, usage_line, bad_script_line, read_fault_line, write_fault_line, bad_capture_line, over_line, bad_text_line, no_memory_line}
 
 -- The words of a command.
@@ -126,3 +130,44 @@ whole_delivery pool history d = refl
 whole_stop : (limits : Limits) (files : Option Files) (name : List ℕ) (part : Part) (count : ℕ) (s : StopsFull limits files name part count)
     → s ≡ record { program = s.program; played = s.played; ready = s.ready; sound = s.sound; history = s.history; region = s.region; roomy = s.roomy; before = s.before; user = s.user; call = s.call; stopped = s.stopped; used = s.used; want = s.want; refused = s.refused; counted = s.counted }
 whole_stop limits files name part count s = refl
+
+whole_run : (limits : Limits) (files : Option Files) (name : List ℕ) (run : HistoryOf limits files name)
+    → run ≡ record { program = run.program; played = run.played; ready = run.ready; entries = run.entries; cast = run.cast; history = run.history }
+whole_run limits files name run = refl
+
+whole_load : (limits : Limits) (n : ℕ) (load : LoadOf limits n) → load ≡ record { entries = load.entries; cast = load.cast; history = load.history }
+whole_load limits n load = refl
+
+whole_owners : (pool : ℕ) (history : List Entry) (owned : HaveOneOwner pool history) → owned ≡ record { parted = owned.parted; agrees = owned.agrees }
+whole_owners pool history owned = refl
+
+-- A capture that was not read is named, and is of a script that was accepted.
+stopped_input : (files : Option Files) (reads : List ℕ → ℕ × ℕ) (name : List ℕ) (fault : InputFault) (which : List ℕ) (s : StopsAtInput files reads name fault which)
+    → (s.stops.name ≡ which) × (counts_of s.program ≤ 1000000)
+stopped_input files reads name fault which s = (s.name_is, s.counted.few_counts)
+
+-- What was written, and that the count of faults tells of a failure.
+
+nothing_written : (io : Io) → WritesNothing io → (io.new_holds ≡ io.holds) × (io.new_files ≡ io.files)
+nothing_written io nothing = (nothing.sink, nothing.shelf)
+
+whole_written : (text : List ℕ) (saved : List OutputFile) (io : Io) → WritesWhole text saved io
+    → (io.new_holds ≡ grown io.holds text) × (io.new_files ≡ all_appended io.files saved)
+whole_written text saved io whole = (whole.sink, whole.shelf)
+
+part_written : (text : List ℕ) (io : Io) → WritesText text io true → GrowsByPrefix io.holds io.new_holds text × ((io.new_files ≡ io.files) × HasRisen io.writes)
+part_written text io part = (part.sink, (part.shelf, part.rose refl))
+
+captures_part_written : (text : List ℕ) (saved : List OutputFile) (io : Io) (w : WritesSaved text saved io true)
+    → (io.new_holds ≡ grown io.holds text) × HasRisen (io.appends w.shelf.output.file)
+captures_part_written text saved io w = (w.sink, w.shelf.rose refl)
+
+faults_rise : (io : Io) (rise : CountsRise io) → rise ≡ record { reads = rise.reads; appends = rise.appends; writes = rise.writes }
+faults_rise io rise = refl
+
+-- A text that is migrated has few bytes, is written in version 2, and leaves all files.
+migrated : (io : Io) (name : List ℕ) (status : Status) (e : EndsText io name status) → (length e.text ≤ 268435456) × (io.new_files ≡ io.files)
+migrated io name status e = (e.short, e.shelf)
+
+new_version : (bytes : List ℕ) (m : Migrated bytes) → new_text m ≡ text_of 2 m.pool m.entries m.free
+new_version bytes m = refl
