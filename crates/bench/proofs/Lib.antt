@@ -1,5 +1,3 @@
 pub mod Opened
 pub mod Ports
 pub mod Rounds
-mod Comers
-mod Coming

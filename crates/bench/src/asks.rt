@@ -1,12 +1,11 @@
-use anyhow::{Result, anyhow};
+use crate::text;
 use nm_io::StdSink;
 use nm_types::{Limits, MAX_POOL};
 use std::alloc::{Alloc, Global};
 use std::fs::{self, Files};
-use std::io::Print;
+use std::io::{self, Print};
 use vale_drive::Drive;
 use vale_entry::{Ask, Entry, Reply};
-use vale_text::{Text, read, write_transcript};
 
 /// The ask of an entry. A put offers the frames that its reply took, since no others are stored.
 fn ask_of(entry: Entry) -> Ask {
@@ -20,16 +19,28 @@ fn ask_of(entry: Entry) -> Ask {
 }
 
 /// Serves asks one after another, and prints how each is answered.
-fn serve<R: Print>(rt: &R, drive: &mut Drive, entries: Vec<Entry>) -> Result<()> {
+fn serve<R: Print>(rt: &R, drive: &mut Drive, entries: Vec<Entry>) -> io::Result<()> {
     for entry in entries {
         match drive.apply(&ask_of(entry)) {
             Ok(None) => println!(rt; "none")?,
             Ok(Some(Reply::LeasesOut { n })) => println!(rt; "waits {n}")?,
             Ok(Some(_)) => println!(rt; "made")?,
-            Err(fault) => return Err(anyhow!("{fault}")),
+            Err(_) => return Err(io::ErrorKind::OutOfMemory.into()),
         }
     }
     Ok(())
+}
+
+/// The entries of a file, and the number that a word names.
+fn asked<R: Files + Alloc>(
+    rt: &R,
+    alloc: Global,
+    path: Option<String>,
+    pool: Option<String>,
+) -> Option<(Vec<Entry>, u32)> {
+    let text = fs::read(rt, &path?).ok()?;
+    let entries = text::entries_of(alloc, &text)?;
+    Some((entries, pool?.parse().ok()?))
 }
 
 /// Reads a transcript whose entries are asks for a drive with so many buffers, serves them, closes
@@ -39,30 +50,22 @@ pub fn run<R: Print + Files + Alloc>(
     alloc: Global,
     path: Option<String>,
     pool: Option<String>,
-) -> Result<()> {
-    let (Some(path), Some(pool)) = (path, pool) else {
-        return Err(anyhow!("a file and the size of a pool are wanted"));
+) -> io::Result<()> {
+    let Some((entries, pool)) = asked(rt, alloc, path, pool) else {
+        return Err(io::ErrorKind::InvalidInput.into());
     };
-    let pool: u32 = pool.parse()?;
     if pool < 1 || pool > MAX_POOL {
-        return Err(anyhow!("a pool has 1 to {MAX_POOL} buffers"));
+        return Err(io::ErrorKind::InvalidInput.into());
     }
-    let text = fs::read(rt, &path)?;
-    if text.len() > 4_000_000_000 {
-        return Err(anyhow!("the text is too long"));
-    }
-    let Ok(Text { entries, .. }) = read(alloc, &text) else {
-        return Err(anyhow!("the text was refused"));
+    let Ok(mut drive) = Drive::new(alloc, pool, Limits::VERSION_2) else {
+        return Err(io::ErrorKind::OutOfMemory.into());
     };
-    let mut drive = Drive::new(alloc, pool, Limits::VERSION_2)?;
     let served = serve(rt, &mut drive, entries);
     let history = drive.close();
     served?;
-    if history.len() == u32::MAX {
-        return Err(anyhow!("there are too many entries"));
-    }
-    match write_transcript(alloc, &mut StdSink::new(rt), pool, history.entries(), pool) {
-        Ok(()) => Ok(()),
-        Err(_) => Err(anyhow!("the transcript was not written")),
+    if text::write(alloc, &mut StdSink::new(rt), pool, history.entries()) {
+        Ok(())
+    } else {
+        Err(io::ErrorKind::OutOfMemory.into())
     }
 }

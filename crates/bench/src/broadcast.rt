@@ -1,12 +1,11 @@
 use crate::memory;
-use anyhow::{Result, anyhow};
 use nm_types::{
     Batch, LeaseId, Limits, MAX_BATCH, MAX_POOL, MAX_SWITCH_PORTS, MIN_RING, Name, NoMemory,
     PortId, SessionId,
 };
 use std::alloc::{Alloc, Global};
 use std::fs::Files;
-use std::io::Print;
+use std::io::{self, Print};
 use std::time::{Clock, Instant};
 use vale_drive::Drive;
 use vale_entry::{Ask, Dest, Reply};
@@ -52,8 +51,8 @@ const MANY: [Shape; 4] = [
 /// How many frames the ports were given, and how many found no room.
 #[derive(Clone, Copy)]
 struct Shares {
-    given: u128,
-    full: u128,
+    given: u32,
+    full: u32,
 }
 
 /// So many broadcasts of 60 bytes.
@@ -68,100 +67,106 @@ fn batch(alloc: Global, frames: u32) -> Result<Batch, NoMemory> {
     Ok(batch)
 }
 
-/// Makes an ask.
-fn made(drive: &mut Drive, ask: &Ask) -> Result<Reply> {
+/// Makes an ask. `None`: it is not enabled, or there is no room for it.
+fn made(drive: &mut Drive, ask: &Ask) -> Option<Reply> {
     match drive.apply(ask) {
-        Ok(Some(reply)) => Ok(reply),
-        Ok(None) => Err(anyhow!("an ask was not enabled")),
-        Err(fault) => Err(anyhow!("{fault}")),
+        Ok(reply) => reply,
+        Err(_) => None,
     }
 }
 
-/// A session comes and opens the ports. The pool has buffers for receive rings that hold up to a
-/// quarter of the frames.
-fn open_ports(alloc: Global, drive: &mut Drive, shape: Shape) -> Result<()> {
-    drop(made(drive, &Ask::Enter { user: 1 })?);
-    for port in 0..shape.ports {
-        let text = format!(in alloc; "vale0:{port}")?;
-        let Ok(name) = Name::parse(&text) else {
-            return Err(anyhow!("a port has no name"));
-        };
-        let ask = Ask::Open {
-            session: SessionId(1),
-            name,
-            tx: MIN_RING,
-            rx: shape.frames / 4,
-            extra: 0,
-        };
-        drop(made(drive, &ask)?);
-    }
-    Ok(())
+/// The first session opens a port. The pool has buffers for receive rings that hold up to a quarter
+/// of the frames.
+fn open_port(alloc: Global, drive: &mut Drive, port: u32, shape: Shape) -> Option<()> {
+    let text = format!(in alloc; "vale0:{port}").ok()?;
+    let ask = Ask::Open {
+        session: SessionId(1),
+        name: Name::parse(&text).ok()?,
+        tx: MIN_RING,
+        rx: shape.frames / 4,
+        extra: 0,
+    };
+    drop(made(drive, &ask)?);
+    Some(())
 }
 
-/// Grants one port's offer, and completes what it is given. Answers how many frames that were, and
-/// how many found no room.
-fn share(drive: &mut Drive, origin: u32, to: PortId) -> Result<(u32, u32)> {
-    let reply = made(drive, &Ask::Grant { origin, to })?;
-    let lease = LeaseId(drive.history().len());
-    let Reply::Shared { given, full, .. } = reply else {
-        return Err(anyhow!("a grant was answered otherwise"));
+/// Grants one port's offer, and completes what it is given.
+fn share(drive: &mut Drive, origin: u32, to: PortId) -> Option<Shares> {
+    let Reply::Shared { given, full, .. } = made(drive, &Ask::Grant { origin, to })? else {
+        return None;
     };
     if given > 0 {
+        let lease = LeaseId(drive.history().len());
         drop(made(drive, &Ask::Done { lease })?);
     }
-    Ok((given, full))
+    Some(Shares { given, full })
 }
 
 /// Grants and completes all offers of the last entry.
-fn share_all(drive: &mut Drive, dests: &[Dest]) -> Result<Shares> {
+fn share_all(drive: &mut Drive, dests: &[Dest]) -> Option<Shares> {
     let origin = drive.history().len();
     let mut all = Shares { given: 0, full: 0 };
     for dest in dests {
-        let (given, full) = share(drive, origin, dest.to)?;
-        all.given += u128::from(given);
-        all.full += u128::from(full);
+        let Shares { given, full } = share(drive, origin, dest.to)?;
+        all.given = all.given.saturating_add(given);
+        all.full = all.full.saturating_add(full);
     }
-    Ok(all)
+    Some(all)
 }
 
 /// The first port sends frames, which each other port is granted.
-fn broadcast(drive: &mut Drive, frames: Batch) -> Result<Shares> {
+fn broadcast(drive: &mut Drive, frames: Batch) -> Option<Shares> {
     let port = PortId(2);
-    let Reply::Offered { to, .. } = made(drive, &Ask::Send { port, frames })? else {
-        return Err(anyhow!("a send was answered otherwise"));
-    };
-    share_all(drive, to.as_slice())
+    match made(drive, &Ask::Send { port, frames })? {
+        Reply::Offered { to, .. } => share_all(drive, to.as_slice()),
+        _ => None,
+    }
 }
 
-/// What became of the frames, and how many nanoseconds it took from the send to the last completion.
+/// A session comes and opens the ports, of which the first sends. Answers what became of the frames,
+/// and how many nanoseconds it took from the send to the last completion.
 fn play<R: Clock>(
     rt: &R,
     alloc: Global,
     drive: &mut Drive,
     shape: Shape,
-) -> Result<(Shares, u128)> {
-    open_ports(alloc, drive, shape)?;
-    let frames = batch(alloc, shape.frames)?;
-    let start = Instant::now(rt)?;
+) -> Option<(Shares, u128)> {
+    drop(made(drive, &Ask::Enter { user: 1 })?);
+    for port in 0..shape.ports {
+        open_port(alloc, drive, port, shape)?;
+    }
+    let frames = batch(alloc, shape.frames).ok()?;
+    let start = Instant::now(rt).ok()?;
     let shares = broadcast(drive, frames)?;
-    Ok((shares, start.elapsed(rt)?.as_nanos()))
+    Some((shares, start.elapsed(rt).ok()?.as_nanos()))
+}
+
+/// Sends a batch in a drive of its own.
+fn play_anew<R: Clock>(rt: &R, alloc: Global, shape: Shape) -> Option<(Shares, u128)> {
+    let mut drive = Drive::new(alloc, MAX_POOL, Limits::VERSION_2).ok()?;
+    let played = play(rt, alloc, &mut drive, shape);
+    drop(drive.close());
+    played
 }
 
 /// Sends one batch of broadcasts of 60 bytes to all other ports of a switch, grants and completes
 /// them, and prints what became of them, or, if `is_timed`, does so with as many ports and frames as
 /// there may be, and also prints nanoseconds and the most memory so far.
-pub fn run<R: Print + Clock + Files + Alloc>(rt: &R, alloc: Global, is_timed: bool) -> Result<()> {
+pub fn run<R: Print + Clock + Files + Alloc>(
+    rt: &R,
+    alloc: Global,
+    is_timed: bool,
+) -> io::Result<()> {
     let shapes: &[Shape] = if is_timed { &MANY } else { &FEW };
     for shape in shapes {
+        let Some((Shares { given, full }, nanos)) = play_anew(rt, alloc, *shape) else {
+            return Err(io::ErrorKind::OutOfMemory.into());
+        };
         let Shape { ports, frames } = *shape;
-        let mut drive = Drive::new(alloc, MAX_POOL, Limits::VERSION_2)?;
-        let played = play(rt, alloc, &mut drive, *shape);
-        drop(drive.close());
-        let (Shares { given, full }, nanos) = played?;
         println!(rt; "broadcast: {frames} frames among {ports} ports, {given} given, {full} full")?;
         if is_timed {
-            let wants = (u64::from(ports) * u64::from(frames)).max(1);
-            let (each, peak) = (nanos / u128::from(wants), memory::peak(rt)?);
+            let wants = u64::from(ports) * u64::from(frames);
+            let (each, peak) = (nanos / u128::from(wants.max(1)), memory::peak(rt));
             println!(rt;
                 "broadcast: {nanos} ns, {each} for each frame and port, at most {peak} kB so far"
             )?;

@@ -1,4 +1,4 @@
-ghost use Rattle.std.specs.Prelude.{◌≡◌, ◌≤◌, [], All, length, IfOk, IfErr, IfSome, vec_capacity};
+ghost use Rattle.std.specs.Prelude.{◌≡◌, ◌≤◌, [], All, length, IfOk, IfErr, vec_capacity};
 ghost use Rattle.nm_region.specs.Buffers.{AreAllOf, opened_buffers, names_of};
 ghost use Rattle.vale_line.specs.Gots.{buffers_of};
 ghost use Rattle.vale_line.specs.Leased.{buffer_count};

@@ -21,43 +21,69 @@ mod threads;
 mod turn;
 mod users;
 
-use anyhow::Result;
+use std::alloc::{Alloc, Global};
 use std::env;
+use std::fs::Files;
+use std::io::{self, Print};
+use std::sync::Wait;
+use std::thread::Threads;
+use std::time::Clock;
 use threads::Shared;
 
-fn main(rt: HostRuntime) -> Result<()> {
-    let mut is_small = true;
-    for word in env::args(&rt)?.skip(1) {
-        is_small = false;
-        match word.as_str() {
-            "capture" => capture::run(&rt, rt.alloc(), true)?,
-            "pool" => pool::run(&rt, rt.alloc(), true)?,
-            "turn" => Shared::Turn.run(&rt, rt.alloc(), true)?,
-            "line" => line::run(&rt, rt.alloc(), true)?,
-            "batch" => batch::run(&rt, rt.alloc(), true)?,
-            "text" => text::run(&rt, rt.alloc(), true)?,
-            "fabric" => Shared::Fabric.run(&rt, rt.alloc(), true)?,
-            "broadcast" => broadcast::run(&rt, rt.alloc(), true)?,
-            "jumbo" => jumbo::run(&rt, rt.alloc(), true)?,
-            "session" => session::run(&rt, true)?,
-            "asks" => {
-                let mut said = env::args(&rt)?.skip(2);
-                return asks::run(&rt, rt.alloc(), said.next(), said.next());
-            }
-            other => println!(&rt; "{other}: no such measurement")?,
-        }
+/// The words of all parts, in the order in which they run small.
+const WORDS: [&str; 10] = [
+    "capture",
+    "pool",
+    "turn",
+    "line",
+    "batch",
+    "text",
+    "fabric",
+    "broadcast",
+    "jumbo",
+    "session",
+];
+
+/// Measures the part that a word names, small or timed.
+fn measure<R: Print + Clock + Files + Alloc + Threads + Wait + Sync>(
+    rt: &R,
+    alloc: Global,
+    word: &str,
+    is_timed: bool,
+) -> io::Result<()> {
+    match word {
+        "capture" => capture::run(rt, alloc, is_timed),
+        "pool" => pool::run(rt, alloc, is_timed),
+        "turn" => threads::run(rt, alloc, Shared::Turn, is_timed),
+        "line" => line::run(rt, alloc, is_timed),
+        "batch" => batch::run(rt, alloc, is_timed),
+        "text" => text::run(rt, alloc, is_timed),
+        "fabric" => threads::run(rt, alloc, Shared::Fabric, is_timed),
+        "broadcast" => broadcast::run(rt, alloc, is_timed),
+        "jumbo" => jumbo::run(rt, alloc, is_timed),
+        "session" => session::run(rt, alloc, is_timed),
+        _ => println!(rt; "{word}: no such measurement"),
     }
-    if is_small {
-        capture::run(&rt, rt.alloc(), false)?;
-        pool::run(&rt, rt.alloc(), false)?;
-        Shared::Turn.run(&rt, rt.alloc(), false)?;
-        line::run(&rt, rt.alloc(), false)?;
-        batch::run(&rt, rt.alloc(), false)?;
-        text::run(&rt, rt.alloc(), false)?;
-        Shared::Fabric.run(&rt, rt.alloc(), false)?;
-        broadcast::run(&rt, rt.alloc(), false)?;
-        jumbo::run(&rt, rt.alloc(), false)?;
-        session::run(&rt, false)?;
+}
+
+/// Runs each part small.
+fn measure_all<R: Print + Clock + Files + Alloc + Threads + Wait + Sync>(
+    rt: &R,
+    alloc: Global,
+) -> io::Result<()> {
+    for word in WORDS {
+        measure(rt, alloc, word, false)?;
     }
     Ok(())
+}
+
+fn main(rt: HostRuntime) -> io::Result<()> {
+    let mut words = env::args(&rt)?.skip(1);
+    let Some(word) = words.next() else {
+        return measure_all(&rt, rt.alloc());
+    };
+    if word.as_str() == "asks" {
+        return asks::run(&rt, rt.alloc(), words.next(), words.next());
+    }
+    measure(&rt, rt.alloc(), &word, true)
 }

@@ -1,11 +1,10 @@
-use anyhow::{Result, anyhow};
 use nm_io::{MemorySink, Sink};
-use nm_types::{Batch, PortId, SessionId};
+use nm_types::{Batch, NoMemory, PortId, SessionId};
 use std::alloc::Global;
-use std::io::Print;
-use std::time::{Clock, Instant};
+use std::io::{self, Print};
+use std::time::{Clock, Duration, Instant};
 use vale_entry::{Ask, Dests, Entry, Reply};
-use vale_text::{read, write_transcript};
+use vale_text::{Text, read, write_transcript};
 
 /// The bytes of each frame.
 const FRAME: usize = 1514;
@@ -17,72 +16,95 @@ const FEW: u32 = 4;
 
 const MANY: u32 = 340;
 
-/// A send of 64 frames to nobody.
-fn send(alloc: Global) -> Result<Entry> {
+/// What it took to write a transcript and to read it.
+#[derive(Clone, Copy)]
+struct Times {
+    entries: usize,
+    bytes: usize,
+    writing: Duration,
+    reading: Duration,
+}
+
+/// A batch of 64 frames.
+fn frames(alloc: Global) -> Result<Batch, NoMemory> {
     let frame = [0x5a; FRAME];
     let mut frames = Batch::new(alloc);
     for _ in 0..FRAMES {
         frames.push(&frame, false)?;
     }
-    Ok(Entry {
-        session: SessionId(1),
-        ask: Ask::Send {
-            port: PortId(2),
-            frames,
-        },
-        reply: Reply::Offered {
-            short: 0,
-            lone: FRAMES,
-            to: Dests::from(Vec::new(alloc)),
-        },
-    })
+    Ok(frames)
 }
 
-fn history(alloc: Global, sends: u32) -> Result<Vec<Entry>> {
+/// Sends of 64 frames to nobody.
+fn history(alloc: Global, sends: u32) -> Option<Vec<Entry>> {
     let mut entries = Vec::new(alloc);
     for _ in 0..sends {
-        entries.push(send(alloc)?)?;
+        let frames = frames(alloc).ok()?;
+        let entry = Entry {
+            session: SessionId(1),
+            ask: Ask::Send {
+                port: PortId(2),
+                frames,
+            },
+            reply: Reply::Offered {
+                short: 0,
+                lone: FRAMES,
+                to: Dests::from(Vec::new(alloc)),
+            },
+        };
+        entries.push(entry).ok()?;
     }
-    Ok(entries)
+    Some(entries)
 }
 
-/// The transcript of a history.
-fn transcript(alloc: Global, entries: &[Entry]) -> Result<MemorySink> {
+/// Writes the transcript of a history with a pool of so many buffers, all free at its end. Answers
+/// whether all was written.
+pub fn write<K: Sink>(alloc: Global, out: &mut K, pool: u32, entries: &[Entry]) -> bool {
+    entries.len() < u32::MAX as usize && write_transcript(alloc, out, pool, entries, pool).is_ok()
+}
+
+/// The entries of a transcript of the newest version.
+pub fn entries_of(alloc: Global, text: &[u8]) -> Option<Vec<Entry>> {
+    if text.len() >= u32::MAX as usize {
+        return None;
+    }
+    match read(alloc, text) {
+        Ok(Text { entries, .. }) => Some(entries),
+        Err(_) => None,
+    }
+}
+
+/// Writes the transcript of a history, and reads it.
+fn play<R: Clock>(rt: &R, alloc: Global, entries: &[Entry]) -> Option<Times> {
     let mut sink = MemorySink::new(alloc, Vec::new(alloc));
-    if entries.len() > 1_000_000 {
-        return Err(anyhow!("too many entries"));
+    let start = Instant::now(rt).ok()?;
+    if !write(alloc, &mut sink, 64, entries) {
+        return None;
     }
-    if write_transcript(alloc, &mut sink, 64, entries, 0).is_err() {
-        return Err(anyhow!("the transcript was not written"));
-    }
-    Ok(sink)
-}
-
-/// The number of entries of a text.
-fn entries_in(alloc: Global, text: &[u8]) -> Result<usize> {
-    if text.len() > 4_000_000_000 {
-        return Err(anyhow!("the text is too long"));
-    }
-    let Ok(text) = read(alloc, text) else {
-        return Err(anyhow!("the text was refused"));
-    };
-    Ok(text.entries.len())
+    let writing = start.elapsed(rt).ok()?;
+    let entries = entries_of(alloc, sink.bytes())?.len();
+    Some(Times {
+        entries,
+        bytes: sink.bytes().len(),
+        writing,
+        reading: start.elapsed(rt).ok()?.saturating_sub(writing),
+    })
 }
 
 /// Writes a small transcript, reads it and prints how many entries it has, or, if `is_timed`, one of
 /// 66 MB and also prints megabytes per second each way.
-pub fn run<R: Print + Clock>(rt: &R, alloc: Global, is_timed: bool) -> Result<()> {
-    let entries = history(alloc, if is_timed { MANY } else { FEW })?;
-    let start = Instant::now(rt)?;
-    let sink = transcript(alloc, &entries)?;
-    let writing = start.elapsed(rt)?.as_micros();
-    let start = Instant::now(rt)?;
-    let count = entries_in(alloc, sink.bytes())?;
-    let reading = start.elapsed(rt)?.as_micros();
-    println!(rt; "text: {count} entries written and read")?;
-    if is_timed && writing > 0 && reading > 0 {
-        let bytes = sink.bytes().len() as u128;
-        let (written, read) = (bytes / writing, bytes / reading);
+pub fn run<R: Print + Clock>(rt: &R, alloc: Global, is_timed: bool) -> io::Result<()> {
+    let Some(entries) = history(alloc, if is_timed { MANY } else { FEW }) else {
+        return Err(io::ErrorKind::OutOfMemory.into());
+    };
+    let Some(times) = play(rt, alloc, &entries) else {
+        return Err(io::ErrorKind::InvalidData.into());
+    };
+    println!(rt; "text: {} entries written and read", times.entries)?;
+    if is_timed {
+        let bytes = times.bytes as u128;
+        let written = bytes / times.writing.as_micros().max(1);
+        let read = bytes / times.reading.as_micros().max(1);
         println!(rt; "text: {written} megabytes written per second, {read} read")?;
     }
     Ok(())

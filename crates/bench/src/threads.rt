@@ -31,35 +31,39 @@ impl Shared {
         alloc: Global,
         threads: u32,
         is_many: bool,
-    ) -> u64 {
-        match (self, is_many) {
-            (Shared::Turn, false) => turn::entries(rt, alloc, threads, 400),
-            (Shared::Turn, true) => turn::entries(rt, alloc, threads, 1_000_000),
-            (Shared::Fabric, false) => fabric::entries(rt, alloc, threads, 200),
-            (Shared::Fabric, true) => fabric::entries(rt, alloc, threads, 100_000),
-        }
-    }
-
-    /// Makes entries from 1, 2 and 4 threads: a few, and prints how many there are, or, if
-    /// `is_timed`, many, and prints entries per second.
-    pub fn run<R: Print + Clock + Threads + Wait + Sync>(
-        self,
-        rt: &R,
-        alloc: Global,
-        is_timed: bool,
-    ) -> io::Result<()> {
-        let word = self.word();
-        for threads in [1, 2, 4] {
-            let start = Instant::now(rt)?;
-            let made = self.count_entries(rt, alloc, threads, is_timed);
-            let micros = start.elapsed(rt)?.as_micros().max(1);
-            let rate = u128::from(made) * 1_000_000 / micros;
-            if is_timed {
-                println!(rt; "{word}: {threads} threads, {rate} entries per second")?;
-            } else {
-                println!(rt; "{word}: {threads} threads, {made} entries")?;
+    ) -> u32 {
+        match self {
+            Shared::Turn => {
+                let count = if is_many { 1_000_000 } else { 400 };
+                turn::entries(rt, alloc, threads, count)
+            }
+            Shared::Fabric => {
+                let count = if is_many { 100_000 } else { 200 };
+                fabric::entries(rt, alloc, threads, count)
             }
         }
-        Ok(())
     }
+}
+
+/// Makes entries from 1, 2 and 4 threads: a few, and prints how many there are, or, if `is_timed`,
+/// many, and prints entries per second.
+pub fn run<R: Print + Clock + Threads + Wait + Sync>(
+    rt: &R,
+    alloc: Global,
+    shared: Shared,
+    is_timed: bool,
+) -> io::Result<()> {
+    let word = shared.word();
+    for threads in [1, 2, 4] {
+        let start = Instant::now(rt)?;
+        let made = shared.count_entries(rt, alloc, threads, is_timed);
+        let micros = start.elapsed(rt)?.as_micros().max(1);
+        if is_timed {
+            let rate = u128::from(made) * 1_000_000 / micros;
+            println!(rt; "{word}: {threads} threads, {rate} entries per second")?;
+        } else {
+            println!(rt; "{word}: {threads} threads, {made} entries")?;
+        }
+    }
+    Ok(())
 }

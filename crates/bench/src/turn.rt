@@ -46,16 +46,14 @@ impl Numbers {
 }
 
 /// Adds the numbers below `count`, as far as there is memory.
-fn add<R: Wait>(rt: &R, turn: &Turn<Numbers>, mut pass: Pass<Numbers>, count: u32) -> Pass<Numbers>
+fn add<R: Wait>(rt: &R, turn: &Turn<Numbers>, mut pass: Pass<Numbers>, count: u32)
     requires { IsPassOf (λ n. tt) turn.now pass × IsOutside pass }
-    ensures { IsPassOf (λ n. tt) turn.now result × IsOutside result }
 {
     for number in 0..count {
         let mut numbers = turn.enter(rt, &mut pass);
         let made = numbers.push(number);
         turn.leave(&mut pass, numbers, made);
     }
-    pass
 }
 
 /// Adds by `threads` threads, a power of two, each of which adds its part of `count`: each half in a
@@ -66,35 +64,31 @@ fn add_by<R: Threads + Wait + Sync>(
     mut pass: Pass<Numbers>,
     threads: u32,
     count: u32,
-) -> Pass<Numbers>
+)
     requires { IsPassOf (λ n. tt) turn.now pass × IsOutside pass }
-    ensures { IsPassOf (λ n. tt) turn.now result × IsOutside result }
 {
     if threads < 2 {
-        return add(rt, turn, pass, count);
+        add(rt, turn, pass, count);
+        return;
     }
     let other = turn.fork(&mut pass);
-    let (mut pass, other) = join(
+    join(
         rt,
-        || -> Pass<Numbers>
+        ||
             requires { IsPassOf (λ n. tt) turn.now pass × IsOutside pass }
-            ensures { IsPassOf (λ n. tt) turn.entry.now result × IsOutside result }
         { add_by(rt, turn, pass, threads / 2, count / 2) },
-        || -> Pass<Numbers>
+        ||
             requires { IsPassOf (λ n. tt) turn.now other × IsOutside other }
-            ensures { IsPassOf (λ n. tt) turn.entry.now result × IsOutside result }
         { add_by(rt, turn, other, threads / 2, count / 2) },
     );
-    turn.join(&mut pass, other);
-    pass
 }
 
 /// Counts the entries that there are after as many threads have added their parts of `count`.
-pub fn entries<R: Threads + Wait + Sync>(rt: &R, alloc: Global, threads: u32, count: u32) -> u64 {
-    let (turn, pass) = match Turn::open(alloc, Numbers::new(alloc)) {
-        Ok(opened) => opened,
-        Err(_) => return 0,
+pub fn entries<R: Threads + Wait + Sync>(rt: &R, alloc: Global, threads: u32, count: u32) -> u32 {
+    let Ok((turn, mut pass)) = Turn::open(alloc, Numbers::new(alloc)) else {
+        return 0;
     };
-    let pass = add_by(rt, &turn, pass, threads, count);
-    turn.close(rt, pass).items.len() as u64
+    let own = turn.fork(&mut pass);
+    add_by(rt, &turn, own, threads, count);
+    turn.close(rt, pass).items.len() as u32
 }

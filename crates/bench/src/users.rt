@@ -1,4 +1,5 @@
 //! What users of sessions do at their ports.
+
 use nm_io::NoGate;
 use nm_types::{Name, PortId, Side};
 use nm_user::Session;
@@ -29,12 +30,12 @@ pub fn receive<R: Wait>(rt: &R, session: &mut Session, port: PortId) -> Option<u
     Some(session.rx_sync(rt, port, &NoGate).ok()?.gave)
 }
 
-/// Ends a book once all of its buffers are free, as they are when its users have left.
-pub fn end<R: Wait>(rt: &R, book: Book) {
+/// Ends a book once all of its buffers are free, as they are when its users have left. Answers how
+/// many entries it has.
+pub fn end<R: Wait>(rt: &R, book: Book) -> u32 {
     for _ in rt.forever() {
         if book.free() == book.buffers() {
-            drop(book.close());
-            return;
+            return book.close().len();
         }
     }
     unreachable!()
