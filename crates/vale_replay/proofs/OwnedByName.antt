@@ -1,5 +1,5 @@
 -- Which owner each buffer has, by where it lies: it has just one, and that one is among its owners.
-use Rattle.std.proofs.Common.{Bool, true, false, cond, not, ℕ, zero, suc, ◌<◌, ◌≤◌, ◌≡◌, List, [], ◌∷◌, ◌++◌, length, map, filter, replicate, slice_get, Option, Some, None, refl, sym, ◌∙◌, ap, subst, arith}
+use Rattle.std.proofs.Common.{Bool, true, false, cond, ℕ, zero, suc, ◌≤◌, ◌≡◌, List, [], ◌∷◌, ◌++◌, length, replicate, slice_get, Option, Some, refl, sym, ◌∙◌, ap, subst, arith}
 use Rattle.std.specs.Prelude.{flat_map}
 use Rattle.std.specs.List.{Contains}
 use Rattle.std.proofs.lemmas.List.Elements.{Contains-append_left, Contains-append_right}
@@ -63,7 +63,6 @@ few-owners pool b owners true same = omega (arith, same)
 few-owners pool b owners false same = omega (arith, same)
 
 module _ (pool : ℕ) (s : Standing) (users : List Machine) (once : AreOwnedOnce pool s users) where
-
   is-owned : (b : ℕ) (owner : Owner) → Contains (owners_of s users b) owner → owners_of s users b ≡ owner ∷ []
   is-owned b owner has = lone-owner (owners_of s users b) owner (few-owners pool b (owners_of s users b) (is_buffer_index pool b) (once b)) has
 
