@@ -1,10 +1,7 @@
-ghost use Rattle.std.specs.Prelude.{[], ◌∷◌};
-
-use nm_types::LineCause;
+use nm_types::{LineCause, NoMemory};
 use std::alloc::Global;
 use std::process::Abort;
-use std::test::Fail;
-use vale_script::{Act, Script, ScriptFault, ScriptWord, Unit, line_count, parse};
+use vale_script::{Script, ScriptFault, ScriptWord, line_count, parse};
 
 const FIRST_RUN: &[u8] =
     b"user a\nuser b\nopen a vale0:a 4 4\nopen b vale0:b 4 4\nput a vale0:a 1 ff:ff:ff:ff:ff:ff 02:00:00:00:00:0a 60 11\ntx a vale0:a\nrx b vale0:b\n";
@@ -22,55 +19,44 @@ type Read = (
     usize,
 );
 
-const READ: [Read; 2] = [
+const READ: &[Read] = &[
     (FIRST_RUN, 8192, &["a", "b"], &[], 7),
     (ALL_LINES, 64, &["a", "b"], &["f", "g"], 21),
+    (b"", 8192, &[], &[], 0),
 ];
 
-fn assert_words(rt: &impl Abort, words: &[ScriptWord], texts: &[&str]) {
-    assert_eq!(rt; words.len(), texts.len());
-    for (word, text) in words.iter().zip(texts) {
-        assert_eq!(rt; word.as_str(), *text);
-    }
+fn are_words(words: &[ScriptWord], texts: &[&str]) -> bool {
+    words.len() == texts.len()
+        && words
+            .iter()
+            .zip(texts)
+            .all(|(word, text)| word.as_str() == *text)
 }
 
-#[test]
-fn scripts_are_read(rt: HostRuntime) -> Result<(), Fail> {
-    for (bytes, pool, users, files, units) in READ {
-        let script = parse(rt.alloc(), bytes).ok().ok_or("read")?;
-        assert_eq!(rt; script.pool(), pool);
-        assert_words(&rt, script.users(), users);
-        assert_words(&rt, script.files(), files);
-        assert_eq!(rt; script.units().len(), units);
-    }
-    Ok(())
+/// Reads a short script.
+fn read(rt: &impl Abort, alloc: Global, bytes: &[u8]) -> Result<Script, ScriptFault> {
+    assert!(rt; bytes.len() <= 1_000);
+    parse(alloc, bytes)
 }
 
-#[test]
-fn units_have_their_lines(rt: HostRuntime) -> Result<(), Fail> {
-    let first = parse(rt.alloc(), FIRST_RUN).ok().ok_or("read")?;
-    let all = parse(rt.alloc(), ALL_LINES).ok().ok_or("read")?;
-    match (first.units().get(4), all.units().get(5)) {
-        (Some(Unit::Single { line }), Some(Unit::Block { lines })) => {
-            assert_eq!(rt; line.at, 5);
-            assert_eq!(rt; line.user, 1);
-            assert!(rt;
-                matches!(
-                    &line.act,
-                    Act::Put {
-                        count: 1,
-                        len: 60,
-                        fill: 17,
-                        ..
-                    }
-                )
-            );
-            assert_eq!(rt; lines.as_slice().len(), 3);
-            assert_eq!(rt; lines.as_slice()[1].at, 9);
+/// Whether a script is read, with this pool, these users and files, and so many units.
+fn is_read(rt: &impl Abort, alloc: Global, (bytes, pool, users, files, units): &Read) -> bool {
+    match read(rt, alloc, bytes) {
+        Ok(script) => {
+            script.pool() == *pool
+                && are_words(script.users(), users)
+                && are_words(script.files(), files)
+                && script.units().len() == *units
         }
-        _ => assert!(rt; false, "a line, and a block"),
+        Err(_) => false,
     }
-    Ok(())
+}
+
+#[test]
+fn scripts_are_read(rt: HostRuntime) {
+    for (at, read) in READ.iter().enumerate() {
+        assert!(rt; is_read(&rt, rt.alloc(), read), "script {at}");
+    }
 }
 
 /// The line that is blamed and why; line 0 if the script was read.
@@ -82,23 +68,24 @@ fn blame(read: Result<Script, ScriptFault>) -> (u32, LineCause) {
     }
 }
 
-/// A script of two users, of whom the first has a port and a monitor open, and this line.
-fn blame_behind(alloc: Global, line: &[u8]) -> Result<(u32, LineCause), Fail> {
-    let mut script = Vec::from_slice(
-        alloc,
-        b"user a\nuser b\nopen a vale0:p 1 1\nopen a mon0 0 2\n",
-    )?;
-    script.extend_from_slice(line)?;
-    if script.len() > 1_000 {
-        return Err("a script is short".into());
-    }
-    Ok(blame(parse(alloc, &script)))
+/// Two users, of whom the first has a port and a monitor open.
+const OPENED: &[u8] = b"user a\nuser b\nopen a vale0:p 1 1\nopen a mon0 0 2\n";
+
+/// What is blamed in a script that goes on with these lines.
+fn blame_behind(
+    rt: &impl Abort,
+    alloc: Global,
+    lines: &[u8],
+) -> Result<(u32, LineCause), NoMemory> {
+    let mut script = Vec::from_slice(alloc, OPENED)?;
+    script.extend_from_slice(lines)?;
+    Ok(blame(read(rt, alloc, &script)))
 }
 
 use LineCause::{Count, Name, Number, Order, Port, Twice, User, Word};
 
 /// A bad fifth line, and why it is bad.
-const BAD_LINES: [(&[u8], LineCause); 40] = [
+const BAD_LINES: &[(&[u8], LineCause)] = &[
     (b"tx a\x01 vale0:p", Word),
     (b"tx a vale0:p\r", Word),
     (b"\x0b#", Word),
@@ -144,21 +131,8 @@ const BAD_LINES: [(&[u8], LineCause); 40] = [
     (b"open a vale0:p 4 4", Twice),
 ];
 
-/// Each of these is a bad fifth line, for the cause beside it.
-fn assert_blamed(rt: &impl Abort, alloc: Global, lines: &[(&[u8], LineCause)]) -> Result<(), Fail> {
-    for (line, cause) in lines {
-        assert_eq!(rt; blame_behind(alloc, line)?, (5, *cause));
-    }
-    Ok(())
-}
-
-#[test]
-fn bad_lines_are_blamed(rt: HostRuntime) -> Result<(), Fail> {
-    assert_blamed(&rt, rt.alloc(), &BAD_LINES)
-}
-
 /// Each cause that the fifth line can have by itself, on each kind of line.
-const EACH_CAUSE: [(&[u8], LineCause); 105] = [
+const EACH_CAUSE: &[(&[u8], LineCause)] = &[
     (b"pool 64\x7f", Word),
     (b"user c\x7f", Word),
     (b"open a vale0:q 4 4\x7f", Word),
@@ -287,13 +261,28 @@ const EACH_CAUSE: [(&[u8], LineCause); 105] = [
     (b"swap a mon0 rx 0 mon0 tx 0", Port),
 ];
 
-#[test]
-fn each_cause_is_told_of_each_kind_of_line(rt: HostRuntime) -> Result<(), Fail> {
-    assert_blamed(&rt, rt.alloc(), &EACH_CAUSE)
+/// Each of these is a bad fifth line, for the cause beside it.
+fn are_blamed(
+    rt: &impl Abort,
+    alloc: Global,
+    lines: &[(&[u8], LineCause)],
+) -> Result<(), NoMemory> {
+    for (line, cause) in lines {
+        let blamed = blame_behind(rt, alloc, line)?;
+        assert!(rt; blamed == (5, *cause), "{blamed:?}");
+    }
+    Ok(())
 }
 
-/// Lines from the fifth on, the one that is blamed, and why.
-const LINES: [(&[u8], u32, LineCause); 13] = [
+/// Each cause is told of each kind of line.
+#[test]
+fn bad_lines_are_blamed(rt: HostRuntime) -> Result<(), NoMemory> {
+    are_blamed(&rt, rt.alloc(), BAD_LINES)?;
+    are_blamed(&rt, rt.alloc(), EACH_CAUSE)
+}
+
+/// Lines from the fifth on, the one that is blamed, or 0 where all are good, and why.
+const LINES: &[(&[u8], u32, LineCause)] = &[
     (b"par\npool 64\nend\n", 6, Order),
     (b"par\nend\nend\n", 7, Order),
     (
@@ -311,61 +300,40 @@ const LINES: [(&[u8], u32, LineCause); 13] = [
     (b"save a vale0:p f\nplay a vale0:p f 1\n", 6, Twice),
     (b"close a vale0:p\ntx a vale0:p\n", 6, Port),
     (b"hex a vale0:p aB0\nhex a vale0:p .", 5, Number),
+    (b"play a vale0:p f 1\nplay a vale0:p f 2\n", 0, Word),
+    (
+        b"save a vale0:p f\nclose a vale0:p\nopen a vale0:p 2 2\nsave a vale0:p g\n",
+        0,
+        Word,
+    ),
+    (
+        b"open b vale0:p 4 4\nclose b vale0:p\ntx a vale0:p\n",
+        0,
+        Word,
+    ),
+    (b"watch a mon0 vale9:x tr\n", 0, Word),
+    (b"  # \x00\xff\n\t\n# last \xff", 0, Word),
+    (b"tx  a\tvale0:p \t\r\n", 0, Word),
+    (b"open a vale0:q 00000000000000000002 4294967295", 0, Word),
 ];
 
 #[test]
-fn lines_are_judged_by_those_before(rt: HostRuntime) -> Result<(), Fail> {
+fn lines_are_judged_by_those_before(rt: HostRuntime) -> Result<(), NoMemory> {
     for (lines, line, cause) in LINES {
-        assert_eq!(rt; blame_behind(rt.alloc(), lines)?, (line, cause));
-    }
-    Ok(())
-}
-
-/// Lines from the fifth on that are all good.
-const GOOD_LINES: [&[u8]; 7] = [
-    b"play a vale0:p f 1\nplay a vale0:p f 2\n",
-    b"save a vale0:p f\nclose a vale0:p\nopen a vale0:p 2 2\nsave a vale0:p g\n",
-    b"open b vale0:p 4 4\nclose b vale0:p\ntx a vale0:p\n",
-    b"watch a mon0 vale9:x tr\n",
-    b"  # \x00\xff\n\t\n# last \xff",
-    b"tx  a\tvale0:p \t\r\n",
-    b"open a vale0:q 00000000000000000002 4294967295",
-];
-
-#[test]
-fn good_lines_are_read(rt: HostRuntime) -> Result<(), Fail> {
-    for lines in GOOD_LINES {
-        assert_eq!(rt; blame_behind(rt.alloc(), lines)?, (0, Word));
+        let blamed = blame_behind(&rt, rt.alloc(), lines)?;
+        assert!(rt; blamed == (*line, *cause), "{blamed:?}");
     }
     Ok(())
 }
 
 #[test]
-fn users_are_at_most_64(rt: HostRuntime) -> Result<(), Fail> {
-    let mut script = Vec::new(rt.alloc());
-    for i in 0u8..65 {
-        script.extend_from_slice(b"user u")?;
-        script.push(b'0' + i / 10)?;
-        script.push(b'0' + i % 10)?;
-        script.push(b'\n')?;
-    }
-    if script.len() > 1_000 {
-        return Err("a script is short".into());
-    }
-    assert_eq!(rt; blame(parse(rt.alloc(), &script)), (65, Twice));
-    assert_eq!(rt; blame(parse(rt.alloc(), b"")), (0, Word));
-    Ok(())
-}
-
-#[test]
-fn lines_are_counted(rt: HostRuntime) -> Result<(), Fail> {
+fn lines_are_counted(rt: HostRuntime) {
     for (bytes, lines) in [
         (b"".as_slice(), 0),
         (b"\n".as_slice(), 1),
         (b"a\n\nb".as_slice(), 3),
         (FIRST_RUN, 7),
     ] {
-        assert_eq!(rt; line_count(bytes), lines);
+        assert!(rt; line_count(bytes) == lines, "{lines}");
     }
-    Ok(())
 }

@@ -1,294 +1,9 @@
-ghost use Rattle.std.specs.Prelude.{[], ◌∷◌};
-
-use nm_io::{MemorySink, Sink};
-use nm_types::{
-    Batch, Chain, Counts, Frame, LeaseId, Name, OpenFault, PortId, SessionId, Side, Sides,
-    SyncFault,
-};
+use nm_io::{MemorySink, Sink, put_all};
+use nm_types::{OpenFault, SyncFault};
 use std::alloc::Global;
 use std::process::Abort;
-use std::test::Fail;
-use vale_entry::{Ask, Dest, Dests, Entry, Item, Items, Numbers, Reply};
+use vale_entry::{Ask, Entry, Reply};
 use vale_text::{PutError, Text, TextFault, read, read_any, write_line, write_transcript};
-
-fn entry(session: u32, ask: Ask, reply: Reply) -> Entry {
-    Entry {
-        session: SessionId(session),
-        ask,
-        reply,
-    }
-}
-
-fn name() -> Result<Name, Fail> {
-    Ok(Name::parse("vale0:a").ok().ok_or("name")?)
-}
-
-fn open(session: u32, rx: u32, extra: u32) -> Result<Ask, Fail> {
-    Ok(Ask::Open {
-        session: SessionId(session),
-        name: name()?,
-        tx: 4,
-        rx,
-        extra,
-    })
-}
-
-fn send(alloc: Global) -> Result<Ask, Fail> {
-    let mut frames = Batch::new(alloc);
-    frames.push(&[0xff, 0x0a], false)?;
-    frames.push(&[], true)?;
-    Ok(Ask::Send {
-        port: PortId(3),
-        frames,
-    })
-}
-
-fn offered(alloc: Global) -> Result<Reply, Fail> {
-    let to = Dest {
-        to: PortId(4),
-        count: 1,
-    };
-    Ok(Reply::Offered {
-        short: 2,
-        lone: 0,
-        to: Dests::from(vec![in alloc; to]?),
-    })
-}
-
-fn first_entries(alloc: Global) -> Result<Vec<Entry>, Fail> {
-    let (origin, to) = (5, PortId(4));
-    let (given, full, gone) = (1, 0, 0);
-    let lease = LeaseId(6);
-    let back = Numbers::from(vec![in alloc; 12u32, 13]?);
-    let (count, none) = (1, Dests::from(Vec::new(alloc)));
-    Ok(vec![in alloc;
-        entry(1, Ask::Enter { user: 1 }, Reply::Made),
-        entry(1, open(1, 4, 0)?, Reply::Opened),
-        entry(1, send(alloc)?, offered(alloc)?),
-        entry(
-            1,
-            Ask::Grant { origin, to },
-            Reply::Shared { given, full, gone }
-        ),
-        entry(1, Ask::Done { lease }, Reply::Made),
-        entry(
-            2,
-            Ask::Sync { port: to, back },
-            Reply::Gave { count, to: none }
-        ),
-    ]?)
-}
-
-const FIRST_ENTRIES: &[u8] =
-    b"vale 2 pool 64\n1 enter 1\n2 1 open vale0:a 4 4 0 = ok\n3 1 send 3 ff0a,~. = short 2 lone 0 to 4*1\n4 1 grant 5 4 = given 1 full 0 gone 0\n5 1 done 6\n6 2 sync 4 12-13 = gave 1 to -\nend 6 free 56\n";
-
-#[test]
-fn entries_are_written(rt: HostRuntime) -> Result<(), Fail> {
-    let mut out = MemorySink::new(rt.alloc(), Vec::new(rt.alloc()));
-    let entries = first_entries(rt.alloc())?;
-    assert!(rt; entries.len() < 9);
-    write_transcript(rt.alloc(), &mut out, 64, &entries, 56)
-        .ok()
-        .ok_or("written")?;
-    assert_eq!(rt; out.bytes(), FIRST_ENTRIES);
-    Ok(())
-}
-
-/// Writes the line of an entry, which does not fail.
-fn put_line(rt: &impl Abort, out: &mut impl Sink, number: u32, entry: &Entry) {
-    assert!(rt; write_line(number, entry, out).is_ok(), "line {number}");
-}
-
-/// Writes the lines of entries, the first of them under this number.
-fn put_lines(rt: &impl Abort, out: &mut impl Sink, first: u32, entries: &[Entry]) {
-    let mut number = first;
-    for entry in entries {
-        put_line(rt, out, number, entry);
-        number = number.saturating_add(1);
-    }
-}
-
-const LAST_ENTRIES: &[u8] =
-    b"9 1 shut 3\n10 1 finish 3 2-5 found 0 astray 0 = unread 0\n11 1 leave\n";
-
-#[test]
-fn closing_and_leaving_are_written(rt: HostRuntime) -> Result<(), Fail> {
-    let mut out = MemorySink::new(rt.alloc(), Vec::new(rt.alloc()));
-    let (session, port) = (SessionId(1), PortId(3));
-    let bufs = Numbers::from(vec![in rt.alloc(); 2u32, 3, 4, 5]?);
-    let (found, astray) = (0, 0);
-    let chain = Chain { found, astray };
-    let finish = Ask::Finish { port, bufs, chain };
-    let entries = vec![in rt.alloc();
-        entry(1, Ask::Shut { port }, Reply::Made),
-        entry(1, finish, Reply::Unread { count: 0 }),
-        entry(1, Ask::Leave { session }, Reply::Made),
-    ]?;
-    put_lines(&rt, &mut out, 9, &entries);
-    assert_eq!(rt; out.bytes(), LAST_ENTRIES);
-    Ok(())
-}
-
-#[test]
-fn a_sink_that_fails_holds_a_prefix(rt: HostRuntime) -> Result<(), Fail> {
-    for (call, len) in [(1u64, 0), (2, 15)] {
-        let fail = vec![in rt.alloc(); call]?;
-        let mut out = MemorySink::new(rt.alloc(), fail);
-        let entries = first_entries(rt.alloc())?;
-        assert!(rt; entries.len() < 9);
-        let written = write_transcript(rt.alloc(), &mut out, 64, &entries, 56);
-        assert_eq!(rt; written, Err(PutError::Failed));
-        assert_eq!(rt; out.bytes(), &FIRST_ENTRIES[..len]);
-    }
-    Ok(())
-}
-
-const RESETS: &[u8] =
-    b"1 1 reset 2 rx headout 1 0 0\n2 1 reset 2 tx curout 1 2 3\n3 1 reset 2 tx indirect 0\n4 1 reset 2 tx indexout 0 66\n5 1 reset 2 tx notheld 0 6\n6 1 reset 2 tx doubled 1 2\n7 1 reset 4 rx unannounced 0 10 14\n8 1 reset 2 tx longlen 0 2049\n9 1 reset 2 tx fragment 0\n";
-
-const RESET_FAULTS: [(u32, Side, SyncFault); 9] = [
-    (
-        2,
-        Side::Rx,
-        SyncFault::HeadOut {
-            head: 1,
-            from: 0,
-            to: 0,
-        },
-    ),
-    (
-        2,
-        Side::Tx,
-        SyncFault::CurOut {
-            cur: 1,
-            from: 2,
-            to: 3,
-        },
-    ),
-    (2, Side::Tx, SyncFault::Indirect { slot: 0 }),
-    (2, Side::Tx, SyncFault::IndexOut { slot: 0, idx: 66 }),
-    (2, Side::Tx, SyncFault::NotHeld { slot: 0, idx: 6 }),
-    (2, Side::Tx, SyncFault::Doubled { slot: 1, idx: 2 }),
-    (
-        4,
-        Side::Rx,
-        SyncFault::Unannounced {
-            slot: 0,
-            idx: 10,
-            was: 14,
-        },
-    ),
-    (2, Side::Tx, SyncFault::LongLen { slot: 0, len: 2049 }),
-    (2, Side::Tx, SyncFault::Fragment { slot: 0 }),
-];
-
-#[test]
-fn resets_are_written(rt: HostRuntime) -> Result<(), Fail> {
-    let mut out = MemorySink::new(rt.alloc(), Vec::new(rt.alloc()));
-    let mut number = 0u32;
-    for (port, side, fault) in RESET_FAULTS {
-        number = number.saturating_add(1);
-        let port = PortId(port);
-        let reset = entry(1, Ask::Reset { port, side, fault }, Reply::Made);
-        put_line(&rt, &mut out, number, &reset);
-    }
-    assert_eq!(rt; out.bytes(), RESETS);
-    Ok(())
-}
-
-const PIPES: &[u8] =
-    b"5 1 put 3 2 = took 2:ff0a,3:. to 6*1\n6 1 put 3 1 = took - to -\n7 1 put 2 1 = peergone\n8 2 get 4 2 = gave 0 to -\n9 3 watch 6 vale0:a t = ok 4\n10 3 watch 6 vale0:a r = notarget\n11 3 watch 6 vale0:a tr = watched 6\n12 2 stat 4 = sent 18446744073709551615 short 0 lone 0 given 1 full 2 read 1\n13 2 open vale0:a 4 2 3 = nobuffers 9 2\n";
-
-fn item(alloc: Global, index: u32, bytes: &[u8]) -> Result<Item, Fail> {
-    let bytes = Frame::new(alloc, bytes, false)?;
-    Ok(Item { index, bytes })
-}
-
-fn took(alloc: Global) -> Result<Reply, Fail> {
-    let (first, second) = (item(alloc, 2, &[0xff, 0x0a])?, item(alloc, 3, &[])?);
-    let to = Dest {
-        to: PortId(6),
-        count: 1,
-    };
-    Ok(Reply::Took {
-        items: Items::from(vec![in alloc; first, second]?),
-        to: Dests::from(vec![in alloc; to]?),
-    })
-}
-
-fn watch(sides: Sides) -> Result<Ask, Fail> {
-    Ok(Ask::Watch {
-        monitor: PortId(6),
-        target: name()?,
-        sides,
-    })
-}
-
-fn counted() -> Reply {
-    Reply::Counted {
-        counts: Counts {
-            sent: u64::MAX,
-            short: 0,
-            lone: 0,
-            given: 1,
-            full: 2,
-            read: 1,
-        },
-    }
-}
-
-fn empty_took(alloc: Global) -> Reply {
-    Reply::Took {
-        items: Items::from(Vec::new(alloc)),
-        to: Dests::from(Vec::new(alloc)),
-    }
-}
-
-fn pipe_entries(alloc: Global) -> Result<Vec<Entry>, Fail> {
-    let port = PortId(3);
-    let back = Numbers::from(vec![in alloc; 2u32]?);
-    let (count, to) = (0, Dests::from(Vec::new(alloc)));
-    let gone = PortId(2);
-    let get = Ask::Get {
-        port: PortId(4),
-        back,
-    };
-    Ok(vec![in alloc;
-        entry(1, Ask::PutKept { port, offered: 2 }, took(alloc)?),
-        entry(1, Ask::PutKept { port, offered: 1 }, empty_took(alloc)),
-        entry(
-            1,
-            Ask::PutKept {
-                port: gone,
-                offered: 1
-            },
-            Reply::PeerGone
-        ),
-        entry(2, get, Reply::Gave { count, to }),
-    ]?)
-}
-
-fn other_entries(alloc: Global) -> Result<Vec<Entry>, Fail> {
-    let port = PortId(4);
-    let (want, have) = (9, 2);
-    let fault = OpenFault::NoBuffers { want, have };
-    Ok(vec![in alloc;
-        entry(3, watch(Sides::T)?, Reply::Watching { target: port }),
-        entry(3, watch(Sides::R)?, Reply::NoTarget),
-        entry(3, watch(Sides::TR)?, Reply::Watched { by: PortId(6) }),
-        entry(2, Ask::Stat { port }, counted()),
-        entry(2, open(2, 2, 3)?, Reply::Refused { fault }),
-    ]?)
-}
-
-#[test]
-fn pipes_monitors_and_counters_are_written(rt: HostRuntime) -> Result<(), Fail> {
-    let mut out = MemorySink::new(rt.alloc(), Vec::new(rt.alloc()));
-    put_lines(&rt, &mut out, 5, &pipe_entries(rt.alloc())?);
-    put_lines(&rt, &mut out, 9, &other_entries(rt.alloc())?);
-    assert_eq!(rt; out.bytes(), PIPES);
-    Ok(())
-}
 
 // a transcript with a line of each kind, each refusal of an opening, each fault and each answer;
 // numbers that could be exchanged differ
@@ -368,7 +83,7 @@ fn answered(reply: &Reply) -> [u64; 6] {
 }
 
 // the numbers of each entry, of what was asked and of the answer
-const NUMBERS: [([u64; 4], [u64; 6]); 33] = [
+const NUMBERS: &[([u64; 4], [u64; 6])] = &[
     ([u64::MAX, 0, 0, 0], [0, 0, 0, 0, 0, 0]),
     ([1, 4, 5, 0], [0, 0, 0, 0, 0, 0]),
     ([1, 6, 7, 4_294_967_295], [0, 0, 0, 0, 0, 0]),
@@ -404,49 +119,156 @@ const NUMBERS: [([u64; 4], [u64; 6]); 33] = [
     ([1, 0, 0, 0], [0, 0, 0, 0, 0, 0]),
 ];
 
-#[test]
-fn each_kind_of_entry_is_read_back(rt: HostRuntime) -> Result<(), Fail> {
-    let text = EACH_KIND;
-    assert!(rt; text.len() < 4_294_967_295);
-    let Text {
-        version,
-        pool,
-        entries,
-        free,
-    } = read(rt.alloc(), text).ok().ok_or("read")?;
-    assert_eq!(rt; (version, pool, free), (2, 262_144, u32::MAX));
-    assert!(rt; entries.len() == 33);
-    for (i, (ask, reply)) in NUMBERS.iter().enumerate() {
-        let entry = entries.get(i).ok_or("entry")?;
-        assert_eq!(rt; asked(&entry.ask), *ask);
-        assert_eq!(rt; answered(&entry.reply), *reply);
+/// The entries have these numbers.
+fn have_numbers(rt: &impl Abort, entries: &[Entry]) {
+    assert!(rt; entries.len() == NUMBERS.len());
+    for (entry, (ask, reply)) in entries.iter().zip(NUMBERS) {
+        assert!(rt; asked(&entry.ask) == *ask, "{ask:?}");
+        assert!(rt; answered(&entry.reply) == *reply, "{reply:?}");
     }
-    let mut out = MemorySink::new(rt.alloc(), Vec::new(rt.alloc()));
-    write_transcript(rt.alloc(), &mut out, 262_144, &entries, u32::MAX)
-        .ok()
-        .ok_or("written")?;
-    assert_eq!(rt; out.bytes(), EACH_KIND);
-    Ok(())
 }
 
-// the transcript of the first run
-const FIRST_TEXT: &[u8] =
-    b"vale 2 pool 8192\n1 enter 1\n2 enter 2\n3 1 open vale0:a 4 4 0 = ok\n4 2 open vale0:b 4 4 0 = ok\n5 1 send 3 ffffffffffff02000000000a88b511111111111111111111111111111111111111111111111111111111111111111111111111111111111111111111 = short 0 lone 0 to 4*1\n6 1 grant 5 4 = given 1 full 0 gone 0\n7 1 done 6\n8 2 sync 4 - = gave 1 to -\n9 1 shut 3\n10 1 finish 3 2-5 found 0 astray 0 = unread 0\n11 1 leave\n12 2 shut 4\n13 2 finish 4 10-14 found 0 astray 0 = unread 0\n14 2 leave\nend 14 free 8192\n";
+/// Writes the line of each entry.
+fn put_lines(rt: &impl Abort, out: &mut impl Sink, entries: &[Entry]) {
+    for (number, entry) in (1u32..).zip(entries) {
+        assert!(rt; write_line(number, entry, out).is_ok(), "line {number}");
+    }
+}
+
+const START: &[u8] = b"vale 2 pool 262144\n";
+
+const END: &[u8] = b"end 33 free 4294967295\n";
+
+/// The lines of entries, one by one between the first line and the last, are the transcript.
+fn are_lines(rt: &impl Abort, alloc: Global, entries: &[Entry]) {
+    let mut out = MemorySink::new(alloc, Vec::new(alloc));
+    assert!(rt; put_all(&mut out, START).is_ok());
+    put_lines(rt, &mut out, entries);
+    assert!(rt; put_all(&mut out, END).is_ok());
+    assert!(rt; out.bytes() == EACH_KIND);
+}
+
+/// The call of a sink that fails, what writing the transcript answers, and what the sink holds then.
+const SINKS: &[(u64, Result<(), PutError>, &[u8])] = &[
+    (1, Err(PutError::Failed), b""),
+    (2, Err(PutError::Failed), START),
+    (99, Ok(()), EACH_KIND),
+];
+
+/// Written to a sink of which a call may fail, a text is answered so, and this is in the sink.
+fn is_written(
+    rt: &impl Abort,
+    alloc: Global,
+    text: &Text,
+    call: u64,
+    answer: Result<(), PutError>,
+    bytes: &[u8],
+) {
+    let Ok(fail) = vec![in alloc; call] else {
+        panic!(rt; "out of memory")
+    };
+    let mut out = MemorySink::new(alloc, fail);
+    assert!(rt; text.entries.len() < 1_000);
+    let written = write_transcript(alloc, &mut out, text.pool, &text.entries, text.free);
+    assert!(rt; written == answer, "{call}");
+    assert!(rt; out.bytes() == bytes, "{call}");
+}
+
+/// What a transcript of either version tells.
+fn told(rt: &impl Abort, alloc: Global, text: &[u8]) -> Text {
+    assert!(rt; text.len() < 4_294_967_295);
+    match read_any(alloc, text) {
+        Ok(told) => told,
+        Err(fault) => panic!(rt; "{fault:?}"),
+    }
+}
+
+/// A text has these numbers: its version, its pool, and the free buffers.
+fn has_numbers(rt: &impl Abort, text: &Text, numbers: [u32; 3]) {
+    assert!(rt;
+        [text.version, text.pool, text.free] == numbers,
+        "{numbers:?}"
+    );
+}
 
 #[test]
-fn the_first_run_is_read(rt: HostRuntime) -> Result<(), Fail> {
-    let text = FIRST_TEXT;
-    assert!(rt; text.len() < 4_294_967_295);
-    let told = read(rt.alloc(), text).ok().ok_or("read")?;
-    assert_eq!(rt; told.entries.len(), 14);
-    let end = text.len().saturating_sub(17);
-    let unended = read(rt.alloc(), &text[..end]).err();
-    assert_eq!(rt; unended, Some(TextFault::BadLine { line: 16 }));
-    Ok(())
+fn each_kind_of_entry_is_read_back(rt: HostRuntime) {
+    let text = told(&rt, rt.alloc(), EACH_KIND);
+    has_numbers(&rt, &text, [2, 262_144, u32::MAX]);
+    have_numbers(&rt, &text.entries);
+    are_lines(&rt, rt.alloc(), &text.entries);
+    for (call, answer, bytes) in SINKS {
+        is_written(&rt, rt.alloc(), &text, *call, *answer, bytes);
+    }
+}
+
+// texts of either version, each with its version, its pool and the free buffers, and the buffers that
+// its entry lists
+const EITHER_TEXTS: &[(&[u8], [u32; 3], &[u32])] = &[
+    (b"vale 1 pool 8\nend 0 free 8\n", [1, 8, 8], &[]),
+    (
+        b"vale 1 pool 65536\nend 0 free 4294967295\n",
+        [1, 65_536, u32::MAX],
+        &[],
+    ),
+    (b"vale 2 pool 8\nend 0 free 7\n", [2, 8, 7], &[]),
+    (b"vale 2 pool 262144\nend 0 free 0\n", [2, 262_144, 0], &[]),
+    (
+        b"vale 1 pool 8\n1 1 sync 2 2,3,5 = gave 0 to -\nend 1 free 3\n",
+        [1, 8, 3],
+        &[2, 3, 5],
+    ),
+    (
+        b"vale 2 pool 8\n1 1 sync 2 2-3,5 = gave 0 to -\nend 1 free 3\n",
+        [2, 8, 3],
+        &[2, 3, 5],
+    ),
+    (
+        b"vale 2 pool 8\n1 1 get 2 4-5,3-4,9,8 = gave 0 to -\nend 1 free 3\n",
+        [2, 8, 3],
+        &[4, 5, 3, 4, 9, 8],
+    ),
+    (
+        b"vale 2 pool 8\n1 1 finish 2 7,7-10 found 0 astray 0 = unread 0\nend 1 free 3\n",
+        [2, 8, 3],
+        &[7, 7, 8, 9, 10],
+    ),
+    (
+        b"vale 2 pool 8\n1 1 get 2 4294967294-4294967295,0 = gave 0 to -\nend 1 free 3\n",
+        [2, 8, 3],
+        &[4_294_967_294, u32::MAX, 0],
+    ),
+];
+
+/// The buffers that the first entry lists.
+fn first_listed(entries: &[Entry]) -> &[u32] {
+    let Some(entry) = entries.first() else {
+        return &[];
+    };
+    match &entry.ask {
+        Ask::Sync { back, .. } | Ask::Get { back, .. } => back.as_slice(),
+        Ask::Finish { bufs, .. } => bufs.as_slice(),
+        _ => &[],
+    }
+}
+
+/// A text is read, with its version, its pool, the free buffers and those that its entry lists.
+fn assert_read(rt: &impl Abort, alloc: Global, text: &[u8], numbers: [u32; 3], listed: &[u32]) {
+    let told = told(rt, alloc, text);
+    has_numbers(rt, &told, numbers);
+    assert!(rt; first_listed(&told.entries) == listed, "{listed:?}");
+    assert!(rt; told.entries.is_empty() == listed.is_empty(), "{listed:?}");
+}
+
+#[test]
+fn texts_of_either_version_are_read(rt: HostRuntime) {
+    for (text, numbers, listed) in EITHER_TEXTS {
+        assert_read(&rt, rt.alloc(), text, *numbers, listed);
+    }
 }
 
 // texts that are none, each with the first line that is none
-const BAD_TEXTS: [(&[u8], u32); 41] = [
+const BAD_TEXTS: &[(&[u8], u32)] = &[
     (b"", 1),
     (b"\n", 1),
     (b"vale 2 pool 0\nend 0 free 0\n", 1),
@@ -544,112 +366,8 @@ const BAD_TEXTS: [(&[u8], u32); 41] = [
     ),
 ];
 
-#[test]
-fn the_first_bad_line_is_told(rt: HostRuntime) -> Result<(), Fail> {
-    for (text, line) in BAD_TEXTS {
-        assert!(rt; text.len() < 4_294_967_295);
-        match read(rt.alloc(), text) {
-            Ok(_) => assert!(rt; false),
-            Err(fault) => assert_eq!(rt; fault, TextFault::BadLine { line }),
-        }
-    }
-    Ok(())
-}
-
-// texts of either version, each with its version, its pool and the free buffers, and the buffers that
-// its entry lists
-const EITHER_TEXTS: [(&[u8], [u32; 3], &[u32]); 9] = [
-    (b"vale 1 pool 8\nend 0 free 8\n", [1, 8, 8], &[]),
-    (
-        b"vale 1 pool 65536\nend 0 free 4294967295\n",
-        [1, 65_536, u32::MAX],
-        &[],
-    ),
-    (b"vale 2 pool 8\nend 0 free 7\n", [2, 8, 7], &[]),
-    (b"vale 2 pool 262144\nend 0 free 0\n", [2, 262_144, 0], &[]),
-    (
-        b"vale 1 pool 8\n1 1 sync 2 2,3,5 = gave 0 to -\nend 1 free 3\n",
-        [1, 8, 3],
-        &[2, 3, 5],
-    ),
-    (
-        b"vale 2 pool 8\n1 1 sync 2 2-3,5 = gave 0 to -\nend 1 free 3\n",
-        [2, 8, 3],
-        &[2, 3, 5],
-    ),
-    (
-        b"vale 2 pool 8\n1 1 get 2 4-5,3-4,9,8 = gave 0 to -\nend 1 free 3\n",
-        [2, 8, 3],
-        &[4, 5, 3, 4, 9, 8],
-    ),
-    (
-        b"vale 2 pool 8\n1 1 finish 2 7,7-10 found 0 astray 0 = unread 0\nend 1 free 3\n",
-        [2, 8, 3],
-        &[7, 7, 8, 9, 10],
-    ),
-    (
-        b"vale 2 pool 8\n1 1 get 2 4294967294-4294967295,0 = gave 0 to -\nend 1 free 3\n",
-        [2, 8, 3],
-        &[4_294_967_294, u32::MAX, 0],
-    ),
-];
-
-/// The buffers that the first entry lists.
-fn first_listed(entries: &[Entry]) -> &[u32] {
-    let Some(entry) = entries.first() else {
-        return &[];
-    };
-    match &entry.ask {
-        Ask::Sync { back, .. } | Ask::Get { back, .. } => back.as_slice(),
-        Ask::Finish { bufs, .. } => bufs.as_slice(),
-        _ => &[],
-    }
-}
-
-/// A text is read, with its version, its pool, the free buffers and those that its entry lists.
-fn assert_read(rt: &impl Abort, alloc: Global, text: &[u8], numbers: [u32; 3], listed: &[u32]) {
-    assert!(rt; text.len() < 4_294_967_295);
-    match read_any(alloc, text) {
-        Ok(told) => {
-            assert!(rt;
-                [told.version, told.pool, told.free] == numbers,
-                "{numbers:?}"
-            );
-            assert!(rt; first_listed(&told.entries) == listed, "{listed:?}");
-            assert!(rt; told.entries.is_empty() == listed.is_empty(), "{listed:?}");
-        }
-        Err(fault) => panic!(rt; "{fault:?}"),
-    }
-}
-
-#[test]
-fn texts_of_either_version_are_read(rt: HostRuntime) {
-    for (text, numbers, listed) in EITHER_TEXTS {
-        assert_read(&rt, rt.alloc(), text, numbers, listed);
-    }
-}
-
-// texts with a line that lists more buffers than are read, in either version
-const LARGE_TEXTS: [&[u8]; 3] = [
-    b"vale 2 pool 8\n1 1 sync 2 0-4294967295 = gave 0 to -\nend 1 free 0\n",
-    b"vale 2 pool 8\n1 1 sync 2 9,0-1048575 = gave 0 to -\nend 1 free 0\n",
-    b"vale 1 pool 8\n1 1 get 2 2-4294967295 = gave 0 to -\nend 1 free 0\n",
-];
-
-#[test]
-fn large_lists_are_not_read(rt: HostRuntime) -> Result<(), Fail> {
-    for text in LARGE_TEXTS {
-        assert!(rt; text.len() < 4_294_967_295);
-        match read_any(rt.alloc(), text) {
-            Ok(_) => assert!(rt; false),
-            Err(fault) => assert_eq!(rt; fault, TextFault::NoMemory),
-        }
-    }
-    Ok(())
-}
-
 // texts of neither version, each with the first line that is none
-const NEITHER_TEXTS: [(&[u8], u32); 17] = [
+const NEITHER_TEXTS: &[(&[u8], u32)] = &[
     (b"vale 0 pool 8\nend 0 free 8\n", 1),
     (b"vale 3 pool 8\nend 0 free 8\n", 1),
     (b"vale 01 pool 8\nend 0 free 8\n", 1),
@@ -702,14 +420,56 @@ const NEITHER_TEXTS: [(&[u8], u32); 17] = [
     ),
 ];
 
-#[test]
-fn texts_of_neither_version_are_refused(rt: HostRuntime) -> Result<(), Fail> {
-    for (text, line) in NEITHER_TEXTS {
-        assert!(rt; text.len() < 4_294_967_295);
-        match read_any(rt.alloc(), text) {
-            Ok(_) => assert!(rt; false),
-            Err(fault) => assert_eq!(rt; fault, TextFault::BadLine { line }),
-        }
+// texts with a line that lists more buffers than are read, in either version
+const LARGE_TEXTS: &[&[u8]] = &[
+    b"vale 2 pool 8\n1 1 sync 2 0-4294967295 = gave 0 to -\nend 1 free 0\n",
+    b"vale 2 pool 8\n1 1 sync 2 9,0-1048575 = gave 0 to -\nend 1 free 0\n",
+    b"vale 1 pool 8\n1 1 get 2 2-4294967295 = gave 0 to -\nend 1 free 0\n",
+];
+
+/// What refuses a text, as one of version 2 or as one of either version.
+fn refusal(rt: &impl Abort, alloc: Global, text: &[u8], either: bool) -> Option<TextFault> {
+    assert!(rt; text.len() < 4_294_967_295);
+    if either {
+        read_any(alloc, text).err()
+    } else {
+        read(alloc, text).err()
     }
-    Ok(())
+}
+
+/// Each text is refused for its first bad line.
+fn are_refused(rt: &impl Abort, alloc: Global, texts: &[(&[u8], u32)], either: bool) {
+    for (text, line) in texts {
+        let fault = TextFault::BadLine { line: *line };
+        assert!(rt; refusal(rt, alloc, text, either) == Some(fault), "{line}");
+    }
+}
+
+#[test]
+fn the_first_bad_line_is_told(rt: HostRuntime) {
+    are_refused(&rt, rt.alloc(), BAD_TEXTS, false);
+    are_refused(&rt, rt.alloc(), NEITHER_TEXTS, true);
+    assert!(rt; refusal(&rt, rt.alloc(), EACH_KIND, false).is_none());
+}
+
+// the transcript of the first run
+const FIRST_TEXT: &[u8] =
+    b"vale 2 pool 8192\n1 enter 1\n2 enter 2\n3 1 open vale0:a 4 4 0 = ok\n4 2 open vale0:b 4 4 0 = ok\n5 1 send 3 ffffffffffff02000000000a88b511111111111111111111111111111111111111111111111111111111111111111111111111111111111111111111 = short 0 lone 0 to 4*1\n6 1 grant 5 4 = given 1 full 0 gone 0\n7 1 done 6\n8 2 sync 4 - = gave 1 to -\n9 1 shut 3\n10 1 finish 3 2-5 found 0 astray 0 = unread 0\n11 1 leave\n12 2 shut 4\n13 2 finish 4 10-14 found 0 astray 0 = unread 0\n14 2 leave\nend 14 free 8192\n";
+
+/// It has 14 entries, and without its last line the one behind them is blamed.
+#[test]
+fn the_first_run_is_read(rt: HostRuntime) {
+    let text = FIRST_TEXT;
+    assert!(rt; told(&rt, rt.alloc(), text).entries.len() == 14);
+    let end = text.len().saturating_sub(17);
+    let fault = TextFault::BadLine { line: 16 };
+    assert!(rt; refusal(&rt, rt.alloc(), text, false).is_none());
+    assert!(rt; refusal(&rt, rt.alloc(), &text[..end], false) == Some(fault));
+}
+
+#[test]
+fn large_lists_are_not_read(rt: HostRuntime) {
+    for text in LARGE_TEXTS {
+        assert!(rt; refusal(&rt, rt.alloc(), text, true) == Some(TextFault::NoMemory));
+    }
 }
