@@ -1,7 +1,8 @@
 -- What a search by position finds.
-use Rattle.std.proofs.Common.{ℕ, suc, ◌≡◌, ◌≤◌, ◌<◌, ◌+◌, Bool, true, false, cond, not, nat_lt, List, [], ◌∷◌, length, position, slice_get, get_or, Some, None, refl, arith}
+use Rattle.std.proofs.Common.{ℕ, suc, ◌≡◌, ◌≤◌, ◌<◌, ◌+◌, Bool, true, false, cond, not, nat_lt, List, [], ◌∷◌, length, position, slice_get, get_or, Option, Some, None, is_some, refl, sym, arith}
 use Rattle.std.specs.List.{list_any, position_or_len}
 use Rattle.std.proofs.lemmas.Bool.{ltb-false}
+use Rattle.std.proofs.lemmas.List.Folds.{list_any_at}
 use Rattle.std.proofs.lemmas.List.Quantifiers.{position-Some}
 use Rattle.std.proofs.lemmas.Option.{slice_get-get_or}
 
@@ -36,3 +37,17 @@ found-at test [] place e = absurd cc
 found-at test (x ∷ xs) place e =
     let at = position-Some test (x ∷ xs) place x e in
     record { it = get_or (x ∷ xs) place x; here = slice_get-get_or (x ∷ xs) place x at.0; passes = at.1; within = at.0 }
+
+some-at : {X : Type 0} (test : X → Bool) (xs : List X) (place : ℕ) → position test xs ≡ Some place → list_any test xs ≡ true
+some-at test [] place e = absurd cc
+some-at test (x ∷ xs) place e =
+    let at = position-Some test (x ∷ xs) place x e in
+    list_any_at test (x ∷ xs) place x at.0 at.1
+
+-- whether anything passes is whether it is found
+pub some-passes : {X : Type 0} (test : X → Bool) (xs : List X) → is_some (position test xs) ≡ list_any test xs
+some-passes test xs = by (position test xs) refl
+  where
+    by : (found : Option ℕ) → position test xs ≡ found → is_some found ≡ list_any test xs
+    by None e = sym (none-passes test xs e)
+    by (Some place) e = sym (some-at test xs place e)

@@ -85,6 +85,12 @@ can-put-parts offered user seen e =
     let three = and_parts (list_all is_pipe_item offered) (holds_all user.bufs.items (item_indices offered)) two.1 in
     record { settled = two.0; pipe = three.0; holds = three.1 }
 
+-- its session has the buffers that it names
+pub put-there : (old user : User) (seen : PortSeen) (offered : List Item) (named : List ℕ) → can_put offered old seen ≡ true → SameUser old user → named ≡ item_indices offered
+    → holds_all user.bufs.items named ≡ true
+put-there old user seen offered named can same e =
+    ap (holds_all user.bufs.items) e ∙ (ap (λ (bs : List Buffer). holds_all bs (item_indices offered)) same.bufs ∙ (can-put-parts offered old seen can).holds)
+
 pub put-enabled : (b : Recorded) (user : User) (at : PortId) (seen : PortSeen) (offered : List Item) → IsLegal b.pool b.entries → IsUser b user
     → IsAsker user (open_port (standing b).world.ports at.0) seen → can_put offered user seen ≡ true → is_enabled (standing b) (Put at offered) ≡ true
 put-enabled b user at seen offered legal is asker can = can-put-is b user at seen offered legal is asker ∙ can

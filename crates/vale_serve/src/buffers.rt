@@ -33,11 +33,17 @@ pub fn unwrap_all(mut from: Vec<Got>, to: &mut Vec<Buf>)
     from.destroy_empty();
 }
 
+fn place_of(bufs: &[Buf], index: u32) -> Option<usize>
+    ensures { result ≡ position (is_buffer index) bufs.now }
+{
+    bufs.iter().position(|buf| buf.index() == index)
+}
+
 /// Tells whether a buffer of this index is there.
 pub(crate) fn holds(bufs: &[Buf], index: u32) -> bool
     ensures { result ≡ holds bufs.now index }
 {
-    bufs.iter().any(|buf| buf.index() == index)
+    place_of(bufs, index).is_some()
 }
 
 fn contains(numbers: &[u32], number: u32) -> bool
@@ -67,12 +73,6 @@ pub(crate) fn holds_all(bufs: &[Buf], named: &[u32]) -> bool
     ensures { result ≡ holds_all bufs.now named.now }
 {
     are_held(bufs, named) && are_distinct(named)
-}
-
-fn place_of(bufs: &[Buf], index: u32) -> Option<usize>
-    ensures { result ≡ position (is_buffer index) bufs.now }
-{
-    bufs.iter().position(|buf| buf.index() == index)
 }
 
 /// Takes the buffer of this index out.

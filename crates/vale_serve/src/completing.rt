@@ -20,7 +20,7 @@ fn place_of(leases: &[Lease], id: LeaseId) -> Option<usize>
 fn has_lease(user: &User, id: LeaseId) -> bool
     ensures { result ≡ has_lease id.0 user.now }
 {
-    user.leases.iter().any(|lease| lease.id() == id)
+    place_of(&user.leases, id).is_some()
 }
 
 /// The place of the session that has a lease.

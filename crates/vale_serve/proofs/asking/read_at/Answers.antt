@@ -3,9 +3,14 @@ use Rattle.vale_entry.specs.World.{open_port}
 use Rattle.vale_book.specs.Reading.{read_ask}
 use Rattle.vale_book.specs.Recorded.{standing}
 use Rattle.vale_serve.proofs.Acting.{unserved}
-use Rattle.vale_serve.proofs.Asked.{owner-at, acted}
+use Rattle.vale_serve.proofs.Asked.{owner-at, acted, asks-at}
 use Rattle.vale_serve.proofs.PortReads.{read-plain, read-missing, read-stays, read-enters, read-whose}
 use Rattle.vale_serve.proofs.asking.read_at.Goals as goal
+
+pub read-requires : goal.read-requires
+read-requires c =
+    asks-at c.args.book.now c.args.users.now.items (open_port (standing c.args.book.now).world.ports c.args.port.0) c.in-Some.seen c.in-Some.place c.index_mut.result.now c.requires
+    (rw c.deref.ensures.value at c.in-Some.ensures) c.index_mut.ensures.value
 
 pub returns-in-None-clause-served : goal.returns-in-None-clause-served
 returns-in-None-clause-served c =

@@ -1,9 +1,20 @@
-use Rattle.std.proofs.Common.{◌≡◌, get_or, refl, rules}
+use Rattle.std.proofs.Common.{◌≡◌, get_or, refl, rules, ap}
 use Rattle.vale_entry.specs.declared.entry.Ask.TheVariants.{Reset}
 use Rattle.vale_entry.specs.World.{open_port}
 use Rattle.vale_book.specs.Recorded.{standing}
-use Rattle.vale_serve.proofs.Asked.{owner-at, acted-still}
+use Rattle.vale_serve.proofs.Asked.{owner-at, acted-still, asks-at}
+use Rattle.vale_entry.specs.Legal.{is_met, can_reset}
+use Rattle.vale_serve.proofs.Acting.{unserved}
 use Rattle.vale_serve.proofs.asking.reset_at.Goals as goal
+
+pub reset-requires : goal.reset-requires
+reset-requires c =
+    let user = c.index-users-place.result in
+    let is : user ≡ get_or c.args.users.now c.in-Some.place user = search rules in
+    asks-at c.args.book.now c.args.users.now (open_port (standing c.args.book.now).world.ports c.args.port.0) c.in-Some.seen c.in-Some.place user c.requires c.in-Some.ensures is
+
+pub returns-in-None-clause-served : goal.returns-in-None-clause-served
+returns-in-None-clause-served c = unserved c.args.book.now (Reset c.args.port c.args.side c.args.fault.now) (λ s. refl) (ap (is_met (can_reset c.args.side c.args.fault.now)) c.in-None.ensures)
 
 pub returns-in-Some-clause-kept : goal.returns-in-Some-clause-kept
 returns-in-Some-clause-kept c =

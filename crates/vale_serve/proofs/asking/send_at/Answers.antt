@@ -1,9 +1,19 @@
-use Rattle.std.proofs.Common.{refl}
+use Rattle.std.proofs.Common.{refl, ap}
 use Rattle.vale_entry.specs.declared.entry.Ask.TheVariants.{Send}
 use Rattle.vale_entry.specs.World.{open_port}
 use Rattle.vale_book.specs.Recorded.{standing}
-use Rattle.vale_serve.proofs.Asked.{owner-at, acted}
+use Rattle.vale_serve.proofs.Asked.{owner-at, acted, asks-at}
+use Rattle.vale_entry.specs.Legal.{is_met, can_send}
+use Rattle.vale_serve.proofs.Acting.{unserved}
 use Rattle.vale_serve.proofs.asking.send_at.Goals as goal
+
+pub send-requires : goal.send-requires
+send-requires c =
+    asks-at c.args.book.now c.args.users.now.items (open_port (standing c.args.book.now).world.ports c.args.port.0) c.in-Some.seen c.in-Some.place c.index_mut.result.now c.requires
+    (rw c.deref.ensures.value at c.in-Some.ensures) c.index_mut.ensures.value
+
+pub returns-in-None-clause-served : goal.returns-in-None-clause-served
+returns-in-None-clause-served c = unserved c.args.book.now (Send c.args.port c.args.batch.now) (λ s. refl) (ap (is_met (can_send (standing c.args.book.now).world c.args.batch.now)) c.in-None.ensures)
 
 pub returns-in-Some-clause-kept : goal.returns-in-Some-clause-kept
 returns-in-Some-clause-kept c =

@@ -36,3 +36,15 @@ pub returns-in_ok-unopened-in-Err-clause-kept : goal.returns-in_ok-unopened-in-E
 returns-in_ok-unopened-in-Err-clause-kept c =
     unopened-kept c.args.book.now c.open.new.self c.room_to_open.new.user c.args.name.now c.args.tx c.args.rx c.args.extra c.in-Err.fault c.requires.legal
     (user-same c.args.book.now c.args.user.now c.room_to_open.new.user c.room_to_open.ensures.same c.requires.user) c.in-Err.ensures.unopened
+
+pub returns-in_err-room-clause-id : goal.returns-in_err-room-clause-id
+returns-in_err-room-clause-id c = c.room_to_open.ensures.same.id
+
+pub returns-in_err-unopened-in-Err-clause-id : goal.returns-in_err-unopened-in-Err-clause-id
+returns-in_err-unopened-in-Err-clause-id c = c.room_to_open.ensures.same.id
+
+pub returns-in-Ok-clause-id : goal.returns-in-Ok-clause-id
+returns-in-Ok-clause-id c = c.take_in.ensures.id ∙ c.room_to_open.ensures.same.id
+
+pub returns-in_ok-unopened-in-Err-clause-id : goal.returns-in_ok-unopened-in-Err-clause-id
+returns-in_ok-unopened-in-Err-clause-id c = c.room_to_open.ensures.same.id

@@ -10,8 +10,8 @@ use Rattle.vale_book.specs.Recorded.{standing}
 use Rattle.vale_serve.specs.Putting.{AreFramed, HasPut, bytes_in, unput}
 use Rattle.vale_serve.specs.Replies.{last_dests}
 use Rattle.vale_serve.specs.Serving.{IsServed}
-use Rattle.vale_serve.proofs.Acting.{unserved, user-same}
-use Rattle.vale_serve.proofs.PortPuts.{put-named, can-put-is, put-enabled, put-refused, few-dests, as-few, put-served, put-kept, unput-kept, unput-served}
+use Rattle.vale_serve.proofs.Acting.{unserved, user-same, settled-parts}
+use Rattle.vale_serve.proofs.PortPuts.{put-named, put-there, can-put-is, can-put-parts, put-enabled, put-refused, few-dests, as-few, put-served, put-kept, unput-kept, unput-served}
 use Rattle.vale_serve.proofs.putting.put.Goals as goal
 
 pub returns-then-not-can_put-clause-served : goal.returns-then-not-can_put-clause-served
@@ -33,6 +33,23 @@ returns-in_err-room-clause-served c =
 
 pub returns-in_err-room-clause-kept : goal.returns-in_err-room-clause-kept
 returns-in_err-room-clause-kept c = user-same c.args.book.now c.args.user.now c.reserve_leases.new.self c.reserve_leases.ensures.same c.requires.user
+
+pub returns-in_err-reserve_leases-clause-id : goal.returns-in_err-reserve_leases-clause-id
+returns-in_err-reserve_leases-clause-id c = c.reserve_leases.ensures.same.id
+
+pub returns-in_err-room-clause-id : goal.returns-in_err-room-clause-id
+returns-in_err-room-clause-id c = c.reserve_leases.ensures.same.id
+
+pub take_from-requires-clause-there : goal.take_from-requires-clause-there
+take_from-requires-clause-there c =
+    put-there c.args.user.now c.reserve_leases.new.self c.args.seen c.args.offered.now c.deref.result.now (sym c.can_put.ensures ∙ c.if-not-can_put.false) c.reserve_leases.ensures.same
+    (rw c.deref.ensures.value c.in_ok-room.ensures.named)
+
+pub all_framed-pending-requires-clause-named : goal.all_framed-pending-requires-clause-named
+all_framed-pending-requires-clause-named c = c.take_from.ensures.bufs.named_is ∙ rw c.deref.ensures.value c.in_ok-room.ensures.named
+
+pub all_framed-pending-requires-clause-pipe : goal.all_framed-pending-requires-clause-pipe
+all_framed-pending-requires-clause-pipe c = (can-put-parts c.args.offered.now c.args.user.now c.args.seen (sym c.can_put.ensures ∙ c.if-not-can_put.false)).pipe
 
 pub pipe_put-requires-clause-enabled : goal.pipe_put-requires-clause-enabled
 pipe_put-requires-clause-enabled c =
@@ -69,6 +86,29 @@ take_in-requires-clause-room c =
     let count = length-map c.all_framed-pending.result.items item_of in
     let room : length c.reserve_leases.new.self.bufs.items ≤ vec_capacity c.reserve_leases.new.self.bufs = search rules in
     omega (arith, few, left, fewer, capacity, size, count, room)
+
+pub take_in-requires-clause-settled : goal.take_in-requires-clause-settled
+take_in-requires-clause-settled c =
+    let parts = can-put-parts c.args.offered.now c.args.user.now c.args.seen (sym c.can_put.ensures ∙ c.if-not-can_put.false) in
+    c.take_from.ensures.sent ∙ (c.reserve_leases.ensures.same.sent ∙ (settled-parts c.args.user.now parts.settled).0)
+
+pub give_all-requires : goal.give_all-requires
+give_all-requires c =
+    let r = put-named c.args.book.now c.args.user.now c.reserve_leases.new.self c.take_from.new.user c.args.port c.args.seen c.args.offered.now c.take_from.result.items c.all_framed-pending.result.items
+    c.requires.legal c.requires.user c.requires.asker (sym c.can_put.ensures ∙ c.if-not-can_put.false) c.reserve_leases.ensures.same c.take_from.ensures (rw c.deref.ensures.value c.in_ok-room.ensures.named) c.all_framed-pending.ensures in
+    let left = ap (λ gs. length gs) c.in-Err.ensures.kept in
+    let fewer = r.out.bufs.fewer in
+    let capacity = r.out.capacity in
+    let size = length-map (items_of c.all_framed-pending.result.items) index_of_item in
+    let count = length-map c.all_framed-pending.result.items item_of in
+    let room : length c.reserve_leases.new.self.bufs.items ≤ vec_capacity c.reserve_leases.new.self.bufs = search rules in
+    omega (arith, left, fewer, capacity, size, count, room)
+
+pub returns-in-Ok-clause-id : goal.returns-in-Ok-clause-id
+returns-in-Ok-clause-id c = c.take_in.ensures.sent.id ∙ (c.take_in.ensures.more.id ∙ (c.take_from.ensures.id ∙ c.reserve_leases.ensures.same.id))
+
+pub returns-clause-id : goal.returns-clause-id
+returns-clause-id c = c.give_all.ensures.more.id ∙ (c.take_from.ensures.id ∙ c.reserve_leases.ensures.same.id)
 
 pub returns-in-Ok-clause-served : goal.returns-in-Ok-clause-served
 returns-in-Ok-clause-served c =

@@ -1,12 +1,14 @@
 use Rattle.std.proofs.Common.{ℕ, ◌≡◌, List, length, sym, ◌∙◌, ap, subst, arith, rules}
+use Rattle.std.proofs.lemmas.List.{length-map}
 use Rattle.nm_region.specs.Buffers.{Buffer, indices_of}
 use Rattle.vale_entry.specs.Legal.{IsEnabled}
 use Rattle.vale_book.specs.BookView.{AreOf}
 use Rattle.vale_book.specs.Reading.{read_ask}
-use Rattle.vale_book.specs.Recorded.{Recorded, standing}
+use Rattle.vale_book.specs.Recorded.{Recorded, standing, IsRefusal}
 use Rattle.vale_port.specs.Ports.{sizes_of}
 use Rattle.vale_entry.specs.Delivery.{delivered_frames}
 use Rattle.vale_serve.specs.Reading.{copied_sizes}
+use Rattle.vale_serve.specs.Buffers.{holds_all}
 use Rattle.vale_serve.specs.Exchange.{HasRead}
 use Rattle.vale_serve.specs.Replies.{last_dests}
 use Rattle.vale_serve.specs.Users.{IsUser}
@@ -36,6 +38,14 @@ returns-in_err-sizes-clause-served c =
 
 pub returns-in_err-room-clause-kept : goal.returns-in_err-room-clause-kept
 returns-in_err-room-clause-kept c = user-same c.args.book.now c.args.user.now c.room_to_read.new.user c.room_to_read.ensures.same c.requires.user
+
+pub returns-in_err-room-clause-id : goal.returns-in_err-room-clause-id
+returns-in_err-room-clause-id c = c.room_to_read.ensures.same.id
+
+pub take_from-requires-clause-there : goal.take_from-requires-clause-there
+take_from-requires-clause-there c =
+    let parts = can-read-parts c.args.is_pipe c.args.back.now c.args.user.now c.args.seen (sym c.can_read.ensures ∙ c.if-not-can_read.false) in
+    ap (λ (bs : List Buffer). holds_all bs c.args.back.now) c.room_to_read.ensures.same.bufs ∙ parts.1
 
 pub read-requires-clause-enabled : goal.read-requires-clause-enabled
 read-requires-clause-enabled c =
@@ -102,6 +112,29 @@ returns-in-Ok-clause-kept c =
     let has : HasRead c.take_from.new.user c.in-Ok.synced.got.items c.in-Ok.synced.offers (length sizes) c.take_in.new.user =
     subst (λ (ns : List ℕ). HasRead c.take_from.new.user c.in-Ok.synced.got.items c.in-Ok.synced.offers (length ns) c.take_in.new.user) c.in_ok-room.ensures.room.copies c.take_in.ensures.taken in
     read-kept r sizes (sizes-are at) c.take_in.new.user has c.in_ok-room.ensures.fits.lease
+
+pub returns-in-Ok-clause-id : goal.returns-in-Ok-clause-id
+returns-in-Ok-clause-id c =
+    let has = c.take_in.ensures.taken in
+    has.sent.id ∙ (has.more.id ∙ (c.take_from.ensures.id ∙ c.room_to_read.ensures.same.id))
+
+pub give-requires : goal.give-requires
+give-requires c =
+    let back = ap (λ v. length v.items) c.in-Err.ensures.back in
+    let long = sym (length-map c.take_from.result.items (λ (b : Buffer). b.index)) ∙ ap (λ (ns : List ℕ). length ns) c.take_from.ensures.bufs.named_is in
+    let fewer = c.take_from.ensures.bufs.fewer in
+    let capacity = c.take_from.ensures.capacity in
+    let room = c.in_ok-room.ensures.fits.bufs in
+    omega (arith, back, long, fewer, capacity, room)
+
+pub returns-in-Err-clause-id : goal.returns-in-Err-clause-id
+returns-in-Err-clause-id c = c.give.ensures.more.id ∙ (c.take_from.ensures.id ∙ c.room_to_read.ensures.same.id)
+
+pub returns-in-Err-clause-served : goal.returns-in-Err-clause-served
+returns-in-Err-clause-served c = (
+  subst (λ (ns : List ℕ). IsRefusal c.args.book.now (read_ask c.args.is_pipe c.args.port ns) c.in-Err.fault) c.take_from.ensures.bufs.named_is c.in-Err.ensures.full,
+  c.in-Err.ensures.err,
+)
 
 pub returns-in-Err-clause-kept : goal.returns-in-Err-clause-kept
 returns-in-Err-clause-kept c =

@@ -33,6 +33,18 @@ returns-in_err-to-clause-served c = search (rules, send-refused c.args.book.now 
 pub returns-in_err-to-clause-kept : goal.returns-in_err-to-clause-kept
 returns-in_err-to-clause-kept c = user-same c.args.book.now c.args.user.now c.reserve_leases.new.self c.reserve_leases.ensures.same c.requires.user
 
+pub returns-in_err-reserve_leases-clause-id : goal.returns-in_err-reserve_leases-clause-id
+returns-in_err-reserve_leases-clause-id c = c.reserve_leases.ensures.same.id
+
+pub returns-in_err-to-clause-id : goal.returns-in_err-to-clause-id
+returns-in_err-to-clause-id c = c.reserve_leases.ensures.same.id
+
+pub returns-in_err-offers-clause-id : goal.returns-in_err-offers-clause-id
+returns-in_err-offers-clause-id c = c.reserve_leases.ensures.same.id
+
+pub returns-clause-id : goal.returns-clause-id
+returns-clause-id c = c.keep.ensures.id ∙ c.reserve_leases.ensures.same.id
+
 pub send-requires : goal.send-requires
 send-requires c = can-send c.args.book.now c.args.user.now c.args.port c.args.seen c.args.batch.now c.requires.legal c.requires.user c.requires.asker ∙ (sym c.can_send.ensures ∙ c.if-not-can_send.false)
 
