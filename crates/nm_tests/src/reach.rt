@@ -33,7 +33,7 @@ fn is_run(run: &Reach<u32>, start: u32, values: [u32; 4]) -> bool
 }
 
 #[test]
-fn a_run_goes_round_and_is_written(rt: HostRuntime) -> Result<(), Fail> {
+fn a_run_goes_round(rt: HostRuntime) -> Result<(), Fail> {
     let values = four(rt.alloc())?;
     let Ok((field, mut all)) = Field::new(values) else {
         unreachable!();
@@ -44,15 +44,35 @@ fn a_run_goes_round_and_is_written(rt: HostRuntime) -> Result<(), Fail> {
     assert!(rt; all.start() == 3 && all.len() == 1);
     all.join(first);
     assert!(rt; is_run(&all, 3, [13, 10, 11, 12]));
-    let last = all.split_front(1);
-    all.join(last);
+    let values = field.close(all);
+    assert!(rt; values[..] == [10, 11, 12, 13]);
+    Ok(())
+}
+
+#[test]
+fn a_run_is_written(rt: HostRuntime) -> Result<(), Fail> {
+    let values = four(rt.alloc())?;
+    let Ok((field, mut all)) = Field::new(values) else {
+        unreachable!();
+    };
     let mut first = all.split_front(1);
     *first.get_mut(0) = 20;
     all.join(first);
     *all.get_mut(3) += 1;
     assert!(rt; is_run(&all, 1, [11, 12, 13, 21]));
-    let middle = all.split_front(2);
-    all.join(middle);
+    let values = field.close(all);
+    assert!(rt; values[..] == [21, 11, 12, 13]);
+    Ok(())
+}
+
+#[test]
+fn both_sides_of_a_run_are_written(rt: HostRuntime) -> Result<(), Fail> {
+    let values = four(rt.alloc())?;
+    let Ok((field, mut all)) = Field::new(values) else {
+        unreachable!();
+    };
+    let first = all.split_front(3);
+    all.join(first);
     for value in all.front_mut() {
         *value = 23;
     }

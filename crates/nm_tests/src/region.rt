@@ -31,8 +31,20 @@ fn differ(a: &mut Buf, b: &mut Buf)
     prove!(first != second);
 }
 
-fn first_byte(buf: &Buf) -> u8 {
-    buf.bytes()[0]
+/// Whether a buffer of the vector has this byte at a place.
+fn has_byte(bufs: &[Buf], at: usize, place: usize, byte: u8) -> bool {
+    match bufs.get(at) {
+        Some(buf) => buf.bytes().get(place) == Some(&byte),
+        None => false,
+    }
+}
+
+/// Whether a buffer of the vector has its index, and zeros.
+fn is_new(bufs: &[Buf], at: usize) -> bool {
+    match bufs.get(at) {
+        Some(buf) => buf.index() as usize == at.wrapping_add(2) && is_zero(buf) && is_sendable(buf),
+        None => false,
+    }
 }
 
 /// Writes the zeros of a buffer twice, and tells whether only the first time did so.
@@ -55,16 +67,10 @@ fn is_sendable<T: Send>(_: &T) -> bool {
 fn three_buffers_of_their_own(rt: HostRuntime) -> Result<(), Fail> {
     let (region, mut all) = Region::new(rt.alloc(), 3)?;
     assert_eq!(rt; all.len(), 3);
-    for at in 0..3 {
-        assert_eq!(rt; all[at].index(), at as u32 + 2);
-        assert_eq!(rt; all[at].bytes().len(), 2048);
-        assert!(rt; is_zero(&all[at]));
-        assert!(rt; is_sendable(&all[at]));
-    }
+    assert!(rt; is_new(&all, 0) && is_new(&all, 1) && is_new(&all, 2));
+    assert!(rt; has_byte(&all, 0, 2047, 0) && !has_byte(&all, 0, 2048, 0));
     mark(&mut all, 1, 0, 7);
-    assert_eq!(rt; first_byte(&all[0]), 0);
-    assert_eq!(rt; first_byte(&all[1]), 7);
-    assert_eq!(rt; first_byte(&all[2]), 0);
+    assert!(rt; is_new(&all, 0) && has_byte(&all, 1, 0, 7) && is_new(&all, 2));
     assert!(rt; prepares_once(&mut all, 2));
     region.close(all);
     Ok(())
@@ -92,12 +98,8 @@ fn a_write_stays_in_its_buffer(rt: HostRuntime) -> Result<(), Fail> {
     assert_eq!(rt; all.len(), 262_144);
     mark(&mut all, 0, 2047, 7);
     mark(&mut all, 2, 0, 9);
-    assert_eq!(rt; all[0].bytes()[2047], 7);
-    assert_eq!(rt; all[1].index(), 3);
-    assert!(rt; is_zero(&all[1]));
-    assert_eq!(rt; all[2].bytes()[0], 9);
-    assert_eq!(rt; all[262_143].index(), 262_145);
-    assert!(rt; is_zero(&all[262_143]));
+    assert!(rt; has_byte(&all, 0, 2047, 7) && is_new(&all, 1));
+    assert!(rt; has_byte(&all, 2, 0, 9) && is_new(&all, 262_143));
     region.close(all);
     Ok(())
 }

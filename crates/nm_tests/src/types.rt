@@ -11,14 +11,24 @@ const BROADCAST: [u8; 14] = [
     0xff, 0xff, 0xff, 0xff, 0xff, 0xff, 0x02, 0, 0, 0, 0, 0x0a, 0x88, 0xb5,
 ];
 
-/// Names with their kinds.
-const NAMES: &[(&str, Kind)] = &[
-    ("vale:a", Kind::Vale),
-    ("vale0:abcdefghij", Kind::Vale),
-    ("pipe0{", Kind::Master),
-    ("pipe0}", Kind::Slave),
-    ("mon0", Kind::Monitor),
-    ("monitor", Kind::Monitor),
+/// A name, its kind, the word of its switch, and the other end of its pipe.
+type Row = (
+    &'static str,
+    Kind,
+    Option<&'static str>,
+    Option<&'static str>,
+);
+
+const NAMES: &[Row] = &[
+    ("vale:a", Kind::Vale, Some(""), None),
+    ("vale0:a", Kind::Vale, Some("0"), None),
+    ("vale0:abcdefghij", Kind::Vale, Some("0"), None),
+    ("valelab:uplink", Kind::Vale, Some("lab"), None),
+    ("pipe0{", Kind::Master, None, Some("pipe0}")),
+    ("pipe0}", Kind::Slave, None, Some("pipe0{")),
+    ("pipe_-a}", Kind::Slave, None, Some("pipe_-a{")),
+    ("mon0", Kind::Monitor, None, None),
+    ("monitor", Kind::Monitor, None, None),
 ];
 
 /// What no port is named.
@@ -32,65 +42,44 @@ const NO_NAMES: &[&str] = &[
     "",
 ];
 
+/// Whether a port of this switch has the name, or no port of a switch.
+fn is_at_switch(name: &Name, switch: Option<&str>) -> bool {
+    match switch {
+        Some(switch) => name.is_switch_port() && name.switch() == switch.as_bytes(),
+        None => !name.is_switch_port(),
+    }
+}
+
+/// Whether an end of a pipe has the name, and this its other end, or no end of one.
+fn has_peer(name: &Name, peer: Option<&str>) -> bool {
+    match peer {
+        Some(peer) if name.is_pipe() => name.peer().as_bytes() == peer.as_bytes(),
+        Some(_) => false,
+        None => !name.is_pipe(),
+    }
+}
+
 /// Whether a text is a name of that kind, and the name's bytes are those of the text.
-fn is_of_kind(text: &str, kind: Kind) -> bool {
-    match Name::parse(text) {
-        Ok(name) => name.kind() == kind && name.as_bytes() == text.as_bytes(),
-        Err(_) => false,
-    }
-}
-
-/// No text is a name.
-fn refuse_all(rt: &impl Abort, texts: &[&str]) {
-    for text in texts {
-        assert!(rt; Name::parse(text).is_err(), "{text}");
-    }
-}
-
-#[test]
-fn names_of_every_kind(rt: HostRuntime) {
-    for (text, kind) in NAMES {
-        assert!(rt; is_of_kind(text, *kind), "{text}");
-    }
-    refuse_all(&rt, NO_NAMES);
-}
-
-/// Whether a text names a port of this switch.
-fn is_at_switch(text: &str, switch: &str) -> bool {
+fn is_name((text, kind, switch, peer): &Row) -> bool {
     match Name::parse(text) {
         Ok(name) => {
-            name.switch() == switch.as_bytes()
-                && name.is_switch_port()
-                && !name.is_pipe()
-                && !name.is_monitor()
+            name.kind() == *kind
+                && name.as_bytes() == text.as_bytes()
+                && name.is_monitor() == (*kind == Kind::Monitor)
+                && is_at_switch(&name, *switch)
+                && has_peer(&name, *peer)
         }
         Err(_) => false,
     }
 }
 
 #[test]
-fn names_tell_their_switch(rt: HostRuntime) {
-    for (text, switch) in [("vale0:a", "0"), ("vale:a", ""), ("valelab:uplink", "lab")] {
-        assert!(rt; is_at_switch(text, switch), "{text}");
+fn names_of_every_kind(rt: HostRuntime) {
+    for row in NAMES {
+        assert!(rt; is_name(row), "{}", row.0);
     }
-}
-
-/// Whether a text names an end of a pipe, and this its other end.
-fn has_peer(text: &str, peer: &str) -> bool {
-    match Name::parse(text) {
-        Ok(name) if name.is_pipe() => name.peer().as_bytes() == peer.as_bytes(),
-        _ => false,
-    }
-}
-
-#[test]
-fn pipes_have_two_ends(rt: HostRuntime) {
-    for (text, peer) in [
-        ("pipe0{", "pipe0}"),
-        ("pipe0}", "pipe0{"),
-        ("pipe_-a}", "pipe_-a{"),
-    ] {
-        assert!(rt; has_peer(text, peer), "{text}");
+    for text in NO_NAMES {
+        assert!(rt; Name::parse(text).is_err(), "{text}");
     }
 }
 
@@ -157,32 +146,63 @@ fn frames_keep_bytes_and_mark(rt: HostRuntime) -> Result<(), NoMemory> {
     Ok(())
 }
 
-/// Its bytes, and the first six of them.
+/// Its bytes, the first six of them, and the others.
 const WHOLE: &[u8] = &BROADCAST;
 
 const START: &[u8] = &[0xff; 6];
 
+const REST: &[u8] = &[0x02, 0, 0, 0, 0, 0x0a, 0x88, 0xb5];
+
+/// A frame with its mark, or bytes behind those of the last frame.
+enum Piece {
+    Frame(&'static [u8], bool),
+    Rest(&'static [u8]),
+}
+
 /// Frames, each with its mark.
 type Frames = &'static [(&'static [u8], bool)];
 
-/// A broadcast, and one that is cut short and marked.
-const TWO: Frames = &[(WHOLE, false), (START, true)];
+/// What is put into a batch, and its frames then: none, a broadcast, the same and one that is
+/// cut short and marked, two that are cut short, and the same where the last one goes on.
+const BATCHES: &[(&[Piece], Frames)] = &[
+    (&[], &[]),
+    (&[Piece::Frame(WHOLE, false)], &[(WHOLE, false)]),
+    (
+        &[Piece::Frame(WHOLE, false), Piece::Frame(START, true)],
+        &[(WHOLE, false), (START, true)],
+    ),
+    (
+        &[Piece::Frame(START, false), Piece::Frame(START, true)],
+        &[(START, false), (START, true)],
+    ),
+    (
+        &[
+            Piece::Frame(START, false),
+            Piece::Frame(START, true),
+            Piece::Rest(REST),
+        ],
+        &[(START, false), (WHOLE, true)],
+    ),
+];
 
-/// Two that are cut short, of which the last one is marked.
-const TWO_SHORT: Frames = &[(START, false), (START, true)];
-
-/// The last one is whole.
-const LAST_WHOLE: Frames = &[(START, false), (WHOLE, true)];
-
-/// Puts a frame behind those of a batch.
-fn push(batch: &mut Batch, bytes: &[u8], no_learn: bool) -> Result<(), NoMemory> {
-    batch.push(bytes, no_learn)
+/// Puts a frame, or bytes behind those of the last frame of a batch, which has one.
+fn put(rt: &impl Abort, batch: &mut Batch, piece: &Piece) -> Result<(), NoMemory> {
+    match piece {
+        Piece::Frame(bytes, no_learn) => batch.push(bytes, *no_learn),
+        Piece::Rest(bytes) => {
+            assert!(rt; batch.len() > 0);
+            batch.extend_last(bytes)
+        }
+    }
 }
 
-/// Puts bytes behind those of the last frame of a batch, which has one.
-fn extend(rt: &impl Abort, batch: &mut Batch, bytes: &[u8]) -> Result<(), NoMemory> {
-    assert!(rt; batch.len() > 0);
-    batch.extend_last(bytes)
+/// A batch of what is put.
+fn batch_of(rt: &impl Abort, alloc: Global, pieces: &[Piece]) -> Result<Batch, NoMemory> {
+    let mut batch = Batch::new(alloc);
+    for piece in pieces {
+        put(rt, &mut batch, piece)?;
+    }
+    Ok(batch)
 }
 
 /// Whether a batch has these frames.
@@ -196,19 +216,29 @@ fn holds(batch: &Batch, frames: Frames) -> bool {
             return false;
         }
     }
-    true
+    batch.is_empty() == frames.is_empty()
 }
 
-/// How many bytes two frames have.
-fn size_of_two(alloc: Global) -> Result<u64, NoMemory> {
-    let mut batch = Batch::new(alloc);
-    batch.push(&BROADCAST, false)?;
-    batch.push(&BROADCAST[..6], true)?;
-    Ok(batch.size())
+/// A batch has the frames that are put, and so has its copy, whatever comes behind them.
+fn hold(rt: &impl Abort, alloc: Global, pieces: &[Piece], frames: Frames) -> Result<(), NoMemory> {
+    let mut batch = batch_of(rt, alloc, pieces)?;
+    let copy = batch.clone()?;
+    put(rt, &mut batch, &Piece::Frame(START, false))?;
+    assert!(rt; batch.len() > frames.len() && batch.is_sendable());
+    assert!(rt; holds(&copy, frames));
+    Ok(())
+}
+
+#[test]
+fn batches_hold_frames_in_order(rt: HostRuntime) -> Result<(), NoMemory> {
+    for (pieces, frames) in BATCHES {
+        hold(&rt, rt.alloc(), pieces, *frames)?;
+    }
+    Ok(())
 }
 
 /// How many bytes two frames have of which the last one went on.
-fn size_of_extended(alloc: Global) -> Result<u64, NoMemory> {
+fn size_of_two(alloc: Global) -> Result<u64, NoMemory> {
     let mut batch = Batch::new(alloc);
     batch.push(&BROADCAST[..6], false)?;
     batch.push(&BROADCAST[..6], true)?;
@@ -217,17 +247,9 @@ fn size_of_extended(alloc: Global) -> Result<u64, NoMemory> {
 }
 
 #[test]
-fn batches_hold_frames_in_order(rt: HostRuntime) -> Result<(), NoMemory> {
-    let mut batch = Batch::new(rt.alloc());
-    assert!(rt; batch.is_empty());
-    push(&mut batch, &BROADCAST, false)?;
-    assert!(rt; batch.len() == 1);
-    push(&mut batch, &BROADCAST[..6], true)?;
-    assert!(rt; holds(&batch, TWO) && batch.is_sendable());
-    let copy = batch.clone()?;
-    push(&mut batch, &BROADCAST[..1], false)?;
-    assert!(rt; batch.len() == 3 && holds(&copy, TWO));
-    assert!(rt; size_of_two(rt.alloc())? == 20);
+fn bytes_are_counted(rt: HostRuntime) -> Result<(), NoMemory> {
+    let size = size_of_two(rt.alloc())?;
+    assert!(rt; size == 20);
     Ok(())
 }
 
@@ -235,22 +257,10 @@ fn batches_hold_frames_in_order(rt: HostRuntime) -> Result<(), NoMemory> {
 fn a_batch_too_large_is_not_sendable(rt: HostRuntime) -> Result<(), NoMemory> {
     let mut batch = Batch::new(rt.alloc());
     for _ in 0..2047 {
-        push(&mut batch, &[0; 2049], false)?;
+        batch.push(&[0; 2049], false)?;
     }
     assert!(rt; batch.is_sendable());
-    push(&mut batch, &[0; 2049], false)?;
+    batch.push(&[0; 2049], false)?;
     assert!(rt; !batch.is_sendable());
-    Ok(())
-}
-
-#[test]
-fn a_last_frame_goes_on(rt: HostRuntime) -> Result<(), NoMemory> {
-    let mut batch = Batch::new(rt.alloc());
-    push(&mut batch, &BROADCAST[..6], false)?;
-    push(&mut batch, &BROADCAST[..6], true)?;
-    assert!(rt; holds(&batch, TWO_SHORT));
-    extend(&rt, &mut batch, &BROADCAST[6..])?;
-    assert!(rt; holds(&batch, LAST_WHOLE));
-    assert!(rt; size_of_extended(rt.alloc())? == 20);
     Ok(())
 }

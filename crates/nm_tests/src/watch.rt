@@ -44,22 +44,17 @@ fn make_all(rt: &impl Abort, alloc: Global, calls: &[Call]) {
     }
 }
 
-/// Port 4 is watched by monitor 6; a second watch of it is refused, even by the same monitor.
-const SECOND: &[Call] = &[
-    Call::Adds(4, 6, Sides::TR, None),
-    Call::Adds(4, 7, Sides::T, Some(6)),
-    Call::Adds(4, 6, Sides::TR, Some(6)),
-    Call::Sees(4, Side::Tx, Some(6)),
-    Call::Sees(6, Side::Tx, None),
-];
-
-#[test]
-fn second_watch_is_refused(rt: HostRuntime) {
-    make_all(&rt, rt.alloc(), SECOND);
-}
-
-/// Each kind of watch sees its own sides.
-const SIDES: [&[Call]; 3] = [
+/// Calls over no watches.
+const ROWS: &[&[Call]] = &[
+    // Port 4 is watched by monitor 6; a second watch of it is refused, even by the same monitor.
+    &[
+        Call::Adds(4, 6, Sides::TR, None),
+        Call::Adds(4, 7, Sides::T, Some(6)),
+        Call::Adds(4, 6, Sides::TR, Some(6)),
+        Call::Sees(4, Side::Tx, Some(6)),
+        Call::Sees(6, Side::Tx, None),
+    ],
+    // Each kind of watch sees its own sides.
     &[
         Call::Adds(4, 6, Sides::T, None),
         Call::Sees(4, Side::Tx, Some(6)),
@@ -75,33 +70,27 @@ const SIDES: [&[Call]; 3] = [
         Call::Sees(4, Side::Tx, Some(6)),
         Call::Sees(4, Side::Rx, Some(6)),
     ],
+    // Monitor 6 watches ports 4, 5 and 7, and monitor 8 watches port 9: a watch ends with either port.
+    &[
+        Call::Adds(4, 6, Sides::T, None),
+        Call::Adds(5, 6, Sides::T, None),
+        Call::Adds(7, 6, Sides::T, None),
+        Call::Adds(9, 8, Sides::R, None),
+        Call::Forgets(5),
+        Call::Sees(4, Side::Tx, Some(6)),
+        Call::Sees(5, Side::Tx, None),
+        Call::Forgets(6),
+        Call::Sees(4, Side::Tx, None),
+        Call::Sees(7, Side::Tx, None),
+        Call::Sees(9, Side::Rx, Some(8)),
+        Call::Adds(4, 8, Sides::T, None),
+        Call::Sees(4, Side::Tx, Some(8)),
+    ],
 ];
 
 #[test]
-fn sides_of_a_watch(rt: HostRuntime) {
-    for calls in SIDES {
+fn watches_are_answered(rt: HostRuntime) {
+    for calls in ROWS {
         make_all(&rt, rt.alloc(), calls);
     }
-}
-
-/// Monitor 6 watches ports 4, 5 and 7, and monitor 8 watches port 9: a watch ends with either port.
-const ENDS: &[Call] = &[
-    Call::Adds(4, 6, Sides::T, None),
-    Call::Adds(5, 6, Sides::T, None),
-    Call::Adds(7, 6, Sides::T, None),
-    Call::Adds(9, 8, Sides::R, None),
-    Call::Forgets(5),
-    Call::Sees(4, Side::Tx, Some(6)),
-    Call::Sees(5, Side::Tx, None),
-    Call::Forgets(6),
-    Call::Sees(4, Side::Tx, None),
-    Call::Sees(7, Side::Tx, None),
-    Call::Sees(9, Side::Rx, Some(8)),
-    Call::Adds(4, 8, Sides::T, None),
-    Call::Sees(4, Side::Tx, Some(8)),
-];
-
-#[test]
-fn watches_end_with_either_port(rt: HostRuntime) {
-    make_all(&rt, rt.alloc(), ENDS);
 }
