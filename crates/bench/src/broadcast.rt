@@ -149,6 +149,11 @@ fn play_anew<R: Clock>(rt: &R, alloc: Global, shape: Shape) -> Option<(Shares, u
     played
 }
 
+/// How many frames are wanted at all ports together.
+fn wanted(ports: u32, frames: u32) -> u64 {
+    u64::from(ports) * u64::from(frames)
+}
+
 /// Sends one batch of broadcasts of 60 bytes to all other ports of a switch, grants and completes
 /// them, and prints what became of them, or, if `is_timed`, does so with as many ports and frames as
 /// there may be, and also prints nanoseconds and the most memory so far.
@@ -165,8 +170,8 @@ pub fn run<R: Print + Clock + Files + Alloc>(
         let Shape { ports, frames } = *shape;
         println!(rt; "broadcast: {frames} frames among {ports} ports, {given} given, {full} full")?;
         if is_timed {
-            let wants = u64::from(ports) * u64::from(frames);
-            let (each, peak) = (nanos / u128::from(wants.max(1)), memory::peak(rt));
+            let wants = wanted(ports, frames).max(1);
+            let (each, peak) = (nanos / u128::from(wants), memory::peak(rt));
             println!(rt;
                 "broadcast: {nanos} ns, {each} for each frame and port, at most {peak} kB so far"
             )?;

@@ -76,6 +76,13 @@ fn put(session: &mut Session, port: PortId, bytes: &[u8], count: u32)
     }
 }
 
+/// The first bytes of a frame, so many at most.
+fn start(frame: &[u8; LONGEST], len: usize) -> &[u8]
+    ensures { length result.now ≤ 9000 }
+{
+    &frame[..len.min(LONGEST)]
+}
+
 /// Puts a batch of frames, and sends it. Answers how many found room.
 fn send_batch<R: Wait>(
     rt: &R,
@@ -84,12 +91,7 @@ fn send_batch<R: Wait>(
     frame: &[u8; LONGEST],
     traffic: Traffic,
 ) -> Option<u32> {
-    put(
-        session,
-        port,
-        &frame[..traffic.len.min(LONGEST)],
-        traffic.batch,
-    );
+    put(session, port, start(frame, traffic.len), traffic.batch);
     send(rt, session, port)
 }
 
@@ -97,7 +99,7 @@ fn send_batch<R: Wait>(
 fn open_receiver<R: Wait>(rt: &R, session: &mut Session, slots: u32) -> Option<PortId> {
     let port = open(rt, session, "vale0:b", slots)?;
     let greeting = frame(&TO_ALL, &THERE);
-    session.put_copies(port, &greeting[..60], 1);
+    put(session, port, start(&greeting, 60), 1);
     send(rt, session, port)?;
     Some(port)
 }
