@@ -1,0 +1,4 @@
+mod CountersTold
+mod Listing
+mod PipeEnds
+mod Telling

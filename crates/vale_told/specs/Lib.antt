@@ -1,0 +1,9 @@
+pub mod Tallies
+pub mod Ends
+pub mod Told
+pub mod ByPort
+pub mod Listed
+pub mod Ports
+pub mod Users
+pub mod Verbs
+pub mod Laws

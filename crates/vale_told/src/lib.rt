@@ -1,0 +1,18 @@
+//! What a history tells of its ports, its users and its entries: what their asks and replies say,
+//! whether or not a switch may have had it.
+#![tactic(auto)]
+
+mod ends;
+mod entered;
+pub mod laws;
+mod listed;
+mod opened;
+mod tally;
+mod told;
+mod verbs;
+
+pub use entered::{User, users};
+pub use opened::{Port, ports, total};
+pub use tally::Tally;
+pub use told::Told;
+pub use verbs::{VERBS, count_of, verb_of};
