@@ -1,5 +1,5 @@
 -- Texts that are added one after another.
-use Rattle.std.proofs.Common.{ℕ, suc, ◌+◌, ◌<◌, ◌≤◌, ◌≡◌, List, [], ◌∷◌, ◌++◌, length, take, drop, get_or, flat_map, refl, sym, ◌∙◌, ap, append_assoc, append-nil, add-one, take_all, drop-cons}
+use Rattle.std.proofs.Common.{ℕ, suc, ◌+◌, ◌<◌, ◌≤◌, ◌≡◌, List, [], ◌∷◌, ◌++◌, length, take, drop, get_or, flat_map, sym, ◌∙◌, ap, append_assoc, append-nil, add-one, take_all, drop-cons}
 use Rattle.std.proofs.lemmas.List.{drop_all}
 use Rattle.vale_strip.proofs.Strips.{adds_two, adds_three, flat_map-more}
 use Rattle.vale_entry.specs.declared.entry.Entry.{Entry}

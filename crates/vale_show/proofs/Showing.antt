@@ -1,5 +1,5 @@
 -- How a run ends.
-use Rattle.std.proofs.Common.{ℕ, ◌+◌, ◌<◌, ◌≤◌, ◌≡◌, List, length, string_bytes, Option, Some, None, IfSome, sym, subst}
+use Rattle.std.proofs.Common.{ℕ, ◌≤◌, ◌≡◌, List, length, Option, Some, IfSome, sym, subst}
 use Rattle.nm_io.specs.Counts.{Rose}
 use Rattle.nm_io.specs.Files.{Files}
 use Rattle.nm_types.specs.Limits.{most_text}

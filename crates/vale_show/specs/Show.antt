@@ -1,36 +1,54 @@
 -- What is asked for, and how a run ends that shows it.
-use Rattle.std.specs.Prelude.{ℕ, Bool, true, false, ◌≡◌, ◌<◌, ◌≤◌, if◌then◌else◌, List, [], ◌∷◌, length, codes, string_bytes, Option, Some, None, IfSome, IsSomeAnd, bytes_eq}
+use Rattle.std.specs.Prelude.{ℕ, Bool, true, false, ◌≡◌, ◌<◌, ◌≤◌, if◌then◌else◌, List, [], ◌∷◌, length, codes, string_bytes, Option, Some, None, option_map, IfSome, IsSomeAnd, bytes_eq}
 use Rattle.nm_io.specs.Counts.{Rose}
 use Rattle.nm_io.specs.Files.{Files}
 use Rattle.nm_io.specs.Held.{grown, GrowsByPrefix}
 use Rattle.nm_types.specs.Limits.{most_text}
 use Rattle.vale_entry.specs.declared.entry.Entry.{Entry}
+use Rattle.vale_words.specs.Words.{number_in}
 use Rattle.vale_text.specs.Reading.{IsTextWith, IsFirstBad}
 use Rattle.vale_show.specs.declared.status.Status.{Status}
 use Rattle.vale_show.specs.declared.status.Status.TheVariants.{Done, Usage, ReadFault, WriteFault, TooLong, NoMemory, BadText}
 use Rattle.vale_show.specs.declared.views.View.{View}
-use Rattle.vale_show.specs.declared.views.View.TheVariants.{Summary, Ports}
+use Rattle.vale_show.specs.declared.views.View.TheVariants.{Summary, Ports, Frame}
 use Rattle.vale_show.specs.Summary.{summary_text}
 use Rattle.vale_show.specs.Table.{table_text}
+use Rattle.vale_show.specs.Frame.{frame_text}
 
 unfoldable pub help_text : List ℕ
-help_text = codes "usage: vale_show FILE [ports]\n\n  FILE        writes a summary of the transcript FILE, of version 1 or 2; - is standard input\n  FILE ports  writes a table of its ports\n"
+help_text = codes "usage: vale_show FILE [ports | frame ENTRY PLACE]\n\n  FILE        writes a summary of the transcript FILE, of version 1 or 2; - is standard input\n  FILE ports  writes a table of its ports\n  FILE frame ENTRY PLACE\n              writes what became of a frame of an entry, both counted from 1\n"
 
 -- the word `--help` asks for this text
 abbrev pub asks_help : List (List ℕ) → Bool
 asks_help (word ∷ []) = bytes_eq word (codes "--help")
 asks_help _ = false
 
--- the words `FILE` ask for the summary, and the words `FILE ports` for the table
+-- the greatest number of 32 bits
+abbrev pub most_number : ℕ
+most_number = 4294967295
+
+abbrev pub frame_asked : Option ℕ → Option ℕ → Option View
+frame_asked None place = None
+frame_asked (Some entry) None = None
+frame_asked (Some entry) (Some place) = Some (Frame entry place)
+
+-- the words `FILE` ask for the summary, `FILE ports` for the table, and `FILE frame ENTRY PLACE` for a
+-- frame, both numbers of 1 to 20 decimal digits and 32 bits
 abbrev pub asked_for : List (List ℕ) → Option (List ℕ × View)
 asked_for (name ∷ []) = Some (name, Summary)
 asked_for (name ∷ word ∷ []) = if bytes_eq word (codes "ports") then Some (name, Ports) else None
+asked_for (name ∷ word ∷ entry ∷ place ∷ []) =
+    if bytes_eq word (codes "frame") then
+    option_map (λ view. (name, view))
+    (frame_asked (number_in 0 most_number entry) (number_in 0 most_number place))
+    else None
 asked_for _ = None
 
 -- what is shown of what a transcript tells
 abbrev pub view_text : View → ℕ → ℕ → List Entry → ℕ → List ℕ
 view_text Summary version pool history free = summary_text version pool history free
 view_text Ports version pool history free = table_text history
+view_text (Frame entry place) version pool history free = frame_text history entry place
 
 -- these bytes are a transcript of version 1 or 2, which tells all this
 pub record Transcript (bytes : List ℕ) : Type 0 where

@@ -15,7 +15,7 @@ code_of NoMemory = 8
 code_of (BadText name line) = 9
 
 unfoldable pub usage_line : List ℕ
-usage_line = codes "usage: vale_show FILE [ports]\n"
+usage_line = codes "usage: vale_show FILE [ports | frame ENTRY PLACE]\n"
 
 unfoldable pub read_fault_line : List ℕ → List ℕ
 read_fault_line name = codes "vale_show: cannot read " ++ name ++ codes "\n"

@@ -1,6 +1,6 @@
 -- The summary of a transcript: its first and last line, how many entries have which verb, the users,
 -- the ports with their frames, all ports together, and each entry that did nothing.
-use Rattle.std.specs.Prelude.{ℕ, ◌==◌, if◌then◌else◌, List, [], ◌∷◌, ◌++◌, length, count_by, codes, decimal}
+use Rattle.std.specs.Prelude.{ℕ, ◌==◌, if◌then◌else◌, List, [], ◌++◌, length, count_by, codes, decimal}
 use Rattle.std.specs.List.{flat_map}
 use Rattle.vale_entry.specs.declared.entry.Entry.{Entry}
 use Rattle.vale_told.specs.declared.tally.Tally.{Tally}

@@ -2,6 +2,7 @@
 #![tactic(auto)]
 
 mod desk;
+mod frame;
 mod page;
 mod refusals;
 mod status;

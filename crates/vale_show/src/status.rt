@@ -52,7 +52,7 @@ fn put_status<K: Sink>(out: &mut K, status: &Status) -> Result<(), Failed>
 {
     match status {
         Status::Done => put_all(out, b""),
-        Status::Usage => put_all(out, b"usage: vale_show FILE [ports]\n"),
+        Status::Usage => put_all(out, b"usage: vale_show FILE [ports | frame ENTRY PLACE]\n"),
         Status::ReadFault { name } => put_parts(
             out,
             &[

@@ -1,8 +1,10 @@
 //! Reads a transcript, and writes what is asked of it.
 ghost use Rattle.std.specs.Prelude.{ℕ, ◌≡◌, ◌≤◌, ◌<◌, ◌-◌, ◌^◌, length, map, string_bytes, option_map, IfOk, IfErr};
+ghost use Rattle.vale_words.specs.Words.{are_digits, number_in};
 ghost use Rattle.vale_text.specs.Reading.{IsTextWith, BlamesText};
-ghost use Rattle.vale_show.specs.Show.{asks_help, help_text, asked_for, view_text, NamesFile, NamesText, WroteText, EndsText, Ends, Shows};
+ghost use Rattle.vale_show.specs.Show.{asks_help, help_text, most_number, frame_asked, asked_for, view_text, NamesFile, NamesText, WroteText, EndsText, Ends, Shows};
 
+use crate::frame::add_frame;
 use crate::page::Page;
 use crate::status::Status;
 use crate::summary::add_summary;
@@ -19,6 +21,38 @@ pub(crate) enum View {
     Summary,
     /// The table of ports.
     Ports,
+    /// The frame at this place of this entry, both counted from 1.
+    Frame { entry: u32, place: u32 },
+}
+
+/// The most digits of a number.
+const MAX_DIGITS: usize = 20;
+
+fn are_digits(word: &[u8]) -> bool
+    ensures { result ≡ are_digits word.now }
+{
+    word.iter().all(|b| b.is_ascii_digit())
+}
+
+/// The number that a word of digits writes, if it fits 32 bits.
+fn number_of(word: &str) -> Option<u32>
+    ensures { result ≡ number_in 0 most_number word.now }
+{
+    if word.len() <= MAX_DIGITS && are_digits(word.as_bytes()) {
+        word.parse().ok()
+    } else {
+        None
+    }
+}
+
+/// The frame of which two words tell the entry and the place.
+fn frame_asked(entry: &str, place: &str) -> Option<View>
+    ensures { result ≡ frame_asked (number_in 0 most_number entry.now) (number_in 0 most_number place.now) }
+{
+    Some(View::Frame {
+        entry: number_of(entry)?,
+        place: number_of(place)?,
+    })
 }
 
 /// What the words ask for: of which file, and what.
@@ -28,6 +62,9 @@ fn asked_for(words: &[String]) -> Option<(&str, View)>
     match words {
         [name] => Some((name.as_str(), View::Summary)),
         [name, view] if view.as_str() == "ports" => Some((name.as_str(), View::Ports)),
+        [name, view, entry, place] if view.as_str() == "frame" => {
+            Some((name.as_str(), frame_asked(entry, place)?))
+        }
         _ => None,
     }
 }
@@ -52,10 +89,12 @@ fn bad_text(alloc: Global, name: &str, line: u32) -> Status
     }
 }
 
-const HELP: &str = "usage: vale_show FILE [ports]
+const HELP: &str = "usage: vale_show FILE [ports | frame ENTRY PLACE]
 
   FILE        writes a summary of the transcript FILE, of version 1 or 2; - is standard input
   FILE ports  writes a table of its ports
+  FILE frame ENTRY PLACE
+              writes what became of a frame of an entry, both counted from 1
 ";
 
 #[tactic(auto, unfolding(crate::specs::Show::help_text))]
@@ -85,6 +124,9 @@ fn page_of(alloc: Global, view: View, text: &Text) -> Result<Page, NoMemory>
     match view {
         View::Summary => add_summary(&mut page, alloc, text)?,
         View::Ports => add_table(&mut page, alloc, &text.entries)?,
+        View::Frame { entry, place } => {
+            add_frame(&mut page, alloc, &text.entries, entry, place)?
+        }
     }
     Ok(page)
 }

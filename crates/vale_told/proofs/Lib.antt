@@ -2,3 +2,4 @@ mod CountersTold
 mod Listing
 mod PipeEnds
 mod Telling
+pub mod Tracing

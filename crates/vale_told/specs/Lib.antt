@@ -6,4 +6,6 @@ pub mod Listed
 pub mod Ports
 pub mod Users
 pub mod Verbs
+pub mod Fates
+pub mod FateRows
 pub mod Laws

@@ -4,6 +4,7 @@
 
 mod ends;
 mod entered;
+mod fates;
 pub mod laws;
 mod listed;
 mod opened;
@@ -12,6 +13,7 @@ mod told;
 mod verbs;
 
 pub use entered::{User, users};
+pub use fates::{Fate, Stay, Trace, frames_at, traces};
 pub use opened::{Port, ports, total};
 pub use tally::Tally;
 pub use told::Told;

@@ -127,7 +127,7 @@ fn told_of_finish(number: u32, reply: &Reply) -> Told
 }
 
 /// How many frames a Put's other end took.
-fn taken(reply: &Reply) -> u64
+pub(crate) fn taken(reply: &Reply) -> u64
     ensures { result ≡ length (kept_items reply.now) }
 {
     match reply {
