@@ -1,0 +1,11 @@
+pub mod OneStep
+pub mod Entered
+pub mod Plain
+pub mod Edits
+pub mod Sends
+pub mod Resets
+pub mod Opened
+pub mod Watched
+pub mod LeaseFilling
+pub mod Grants
+pub mod Leaves
