@@ -1,23 +1,29 @@
 -- A call of a desk that was made by one entry.
-use Rattle.std.proofs.Common.{true, ◌==◌, ℕ, ◌+◌, ◌≡◌, [], ◌∷◌, ◌++◌, length, length-append, Option, Some, None, option_map, refl, sym, ◌∙◌, ap, subst, IsSome}
+use Rattle.std.proofs.Common.{Bool, true, false, ◌==◌, ℕ, ◌+◌, ◌≡◌, [], ◌∷◌, ◌++◌, length, length-append, Option, Some, None, option_map, refl, sym, ◌∙◌, ap, subst, IsSome}
 use Rattle.std.proofs.lemmas.Bool.{and_parts, eqb-true}
 use Rattle.nm_types.specs.declared.id.PortId.{PortId}
 use Rattle.nm_types.specs.OwnPorts.{OwnPort, OwnState, port_with_id}
 use Rattle.nm_port.specs.Regions.{AllOf}
 use Rattle.vale_entry.specs.declared.entry.Ask.{Ask}
+use Rattle.vale_entry.specs.declared.entry.Ask.TheVariants.{Enter, Open, Send, Grant, Done, Sync, Reset, Shut, Finish, Leave, Put, PutKept, Get, Watch, Stat}
+use Rattle.vale_entry.specs.declared.entry.Reply.TheVariants as replies
 use Rattle.vale_entry.specs.declared.entry.Reply.{Reply}
 use Rattle.vale_entry.specs.Arrivals.{arrivals_of}
-use Rattle.vale_entry.specs.Legal.{Outcome, IsEnabled, is_enabled, step, reply_of, session_and_reply, entry_by, kept_ask}
+use Rattle.vale_entry.specs.Legal.{Standing, Outcome, Follows, IsEnabled, is_enabled, step, reply_of, session_and_reply, entry_by, kept_ask}
 use Rattle.vale_entry.specs.OwnCalls.{own_by}
 use Rattle.vale_entry.proofs.ListLaws.{place-of}
 use Rattle.vale_own.specs.Asker.{asks, asker_of, is_asker}
 use Rattle.vale_own.specs.Side.{IsOfSide, is_shut, shut_after}
-use Rattle.vale_own.specs.SideAsks.{HasSide, MayAsk, IsMade, IsOpen}
+use Rattle.vale_own.specs.SideAsks.{HasSide, IsSettled, MayAsk, IsMade, IsOpen}
+use Rattle.vale_own.specs.Own.{Own, own_of, is_settled_own}
+use Rattle.vale_own.specs.OwnEntries.{own_after_entry}
 use Rattle.vale_own.proofs.Asking.{own-tells}
+use Rattle.vale_own.proofs.OwnEntry.{own-entries}
+use Rattle.vale_own.proofs.OwnKept.{legal-split}
 use Rattle.vale_own.proofs.SideEntries.{calls-own, calls-keep}
 use Rattle.vale_own.specs.Recorded.{Recorded, standing, after_ask, after_outcome, HasRoom}
 use Rattle.nm_desk.specs.Desks.{DeskState, IsDeskOf, side_of}
-use Rattle.nm_desk.specs.Calls.{Made, IsOpenAt, with_entry}
+use Rattle.nm_desk.specs.Calls.{IsQuiet, Made, IsOpenAt, with_entry}
 
 -- what a session may ask is enabled
 pub may-enabled : (b : Recorded) (d : DeskState) (ask : Ask) → IsDeskOf b d → MayAsk b.pool b.entries d.id ask → IsEnabled (standing b) ask
@@ -70,6 +76,24 @@ grown b new session ask reply mine made =
 pub counted : (b new : Recorded) (session : ℕ) (ask : Ask) (reply : Reply) → new ≡ with_entry b session ask reply → length new.entries ≡ length b.entries + 1
 counted b new session ask reply news = ap (λ (rec : Recorded). length rec.entries) news ∙ length-append b.entries (entry_by session ask reply ∷ [])
 
+settled-still : (s : Standing) (ask : Ask) (reply : Reply) (own : Own) → IsQuiet ask → is_settled_own own ≡ true → is_settled_own (own_after_entry s ask reply own) ≡ true
+settled-still s (Enter user) reply own quiet e = absurd quiet
+settled-still s (Send port frames) reply own quiet e = absurd quiet
+settled-still s (Sync port back) reply own quiet e = absurd quiet
+settled-still s (Get port back) reply own quiet e = absurd quiet
+settled-still s (PutKept port offered) reply own quiet e = absurd quiet
+settled-still s (Grant origin to) reply own quiet e = absurd quiet
+settled-still s (Done lease) reply own quiet e = absurd quiet
+settled-still s (Open session name tx rx extra) replies.Opened own quiet e = e
+settled-still s (Open session name tx rx extra) reply own quiet e = e
+settled-still s (Reset port side fault) reply own quiet e = e
+settled-still s (Shut port) reply own quiet e = e
+settled-still s (Finish port bufs chain) reply own quiet e = e
+settled-still s (Leave session) reply own quiet e = e
+settled-still s (Put port offered) reply own quiet e = e
+settled-still s (Watch monitor target sides) reply own quiet e = e
+settled-still s (Stat port) reply own quiet e = e
+
 -- once the desk's step is made, its side is what the entry makes of it, and the session's still
 pub step-of : (b new : Recorded) (d after : DeskState) (ask : Ask) (reply : Reply) → IsDeskOf b d → IsMade b.pool b.entries d.id ask reply
     → IsOfSide d.shut d.own (kept_ask ask) reply → new ≡ after_ask b ask → HasRoom b ask
@@ -87,6 +111,10 @@ step-of b new d after ask reply is mine of made room after_is region = record {
         (subst (λ (x : DeskState). HasSide b.pool (b.entries ++ entry_by d.id ask reply ∷ []) x.id x.shut x.own) (sym after_is) kept);
     region = subst (λ (rec : Recorded). AllOf rec.region (side_of after)) (sym news) region;
   };
+  settled = λ quiet was.
+      subst (λ (rec : Recorded). IsSettled rec.pool rec.entries after.id) (sym news)
+      (subst (IsSettled b.pool (b.entries ++ entry_by d.id ask reply ∷ [])) (sym (ap (λ (x : DeskState). x.id) after_is))
+      (ap is_settled_own (own-entries b.pool b.entries (entry_by d.id ask reply) is.side.legal follows) ∙ settled-still (standing b) (kept_ask ask) reply (own_of d.id (standing b)) quiet was));
 }
   where
     news : new ≡ with_entry b d.id ask reply
@@ -95,6 +123,9 @@ step-of b new d after ask reply is mine of made room after_is region = record {
     kept : HasSide b.pool (b.entries ++ entry_by d.id ask reply ∷ []) d.id (shut_after (kept_ask ask) d.shut)
         (own_by (length b.entries + 1) (kept_ask ask) reply (arrivals_of (standing b) (kept_ask ask) reply) d.own)
     kept = calls-keep b.pool b.entries d.id d.shut d.own ask reply is.side mine of
+
+    follows : Follows (standing b) (entry_by d.id ask reply)
+    follows = (legal-split b.pool b.entries (entry_by d.id ask reply ∷ []) kept.legal).1.0
 
 pub step-by : (b new : Recorded) (d after : DeskState) (ask : Ask) (reply : Reply) → IsDeskOf b d → MayAsk b.pool b.entries d.id ask
     → (IsMade b.pool b.entries d.id ask reply → IsOfSide d.shut d.own (kept_ask ask) reply)

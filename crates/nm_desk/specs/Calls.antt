@@ -1,10 +1,10 @@
 -- What a call of a desk does: to the book's record, and to what the desk has.
-use Rattle.std.specs.Prelude.{ℕ, false, ◌≡◌, ◌⊎◌, [], ◌∷◌, ◌++◌, length, None, IsSome}
+use Rattle.std.specs.Prelude.{ℕ, false, ◌≡◌, ◌⊎◌, ◌+◌, [], ◌∷◌, ◌++◌, length, None, IsSome}
 use Rattle.nm_types.specs.OwnPorts.{empty_own, port_with_id}
 use Rattle.nm_types.specs.declared.fault.StepFault.{StepFault}
 use Rattle.nm_types.specs.declared.fault.StepFault.TheVariants.{NoMemory}
 use Rattle.vale_entry.specs.declared.entry.Ask.{Ask}
-use Rattle.vale_entry.specs.declared.entry.Ask.TheVariants.{Enter}
+use Rattle.vale_entry.specs.declared.entry.Ask.TheVariants.{Enter, Send, Grant, Done, Sync, PutKept, Get}
 use Rattle.vale_entry.specs.declared.entry.Reply.{Reply}
 use Rattle.vale_entry.specs.declared.entry.Reply.TheVariants as replies
 use Rattle.vale_entry.specs.Arrivals.{arrivals_of}
@@ -15,12 +15,23 @@ use Rattle.vale_own.specs.SideAsks.{IsMade, IsSettled}
 use Rattle.vale_own.specs.Recorded.{Recorded, standing, HasRoom, IsRefusal}
 use Rattle.nm_desk.specs.Desks.{DeskState, IsDeskOf}
 
+-- an entry that starts no offers, and settles none
+abbrev pub IsQuiet : Ask → Type 0
+IsQuiet (Enter user) = ⊥
+IsQuiet (Send port frames) = ⊥
+IsQuiet (Sync port back) = ⊥
+IsQuiet (Get port back) = ⊥
+IsQuiet (PutKept port offered) = ⊥
+IsQuiet (Grant origin to) = ⊥
+IsQuiet (Done lease) = ⊥
+IsQuiet _ = Unit {0}
+
 -- the record with the entry of this ask and reply more, a session's
 abbrev pub with_entry : Recorded → ℕ → Ask → Reply → Recorded
 with_entry b session ask reply = record b { entries = b.entries ++ entry_by session ask reply ∷ [] }
 
 -- just the entry of this ask was made, with this reply, as the desk's; the desk has what the entry makes
--- of what it had, and is one of the book still
+-- of what it had, and is one of the book still; it is settled still where the entry starts no offers
 pub record Made (b new : Recorded) (d after : DeskState) (ask : Ask) (reply : Reply) : Type 0 where
   pub made : IsMade b.pool b.entries d.id ask reply
   pub room : HasRoom b ask
@@ -29,6 +40,7 @@ pub record Made (b new : Recorded) (d after : DeskState) (ask : Ask) (reply : Re
   pub shut : after.shut ≡ shut_after (kept_ask ask) d.shut
   pub own : after.own ≡ own_by (length new.entries) (kept_ask ask) reply (arrivals_of (standing b) (kept_ask ask) reply) d.own
   pub desk : IsDeskOf new after
+  pub settled : IsQuiet (kept_ask ask) → IsSettled b.pool b.entries d.id → IsSettled new.pool new.entries after.id
 
 -- no entry was made: memory was wanting before the book was asked, or it had no room for the entry
 pub record IsRefused (b new : Recorded) (ask : Ask) (fault : StepFault) : Type 0 where

@@ -1,5 +1,5 @@
 -- What a sync of a desk does.
-use Rattle.std.specs.Prelude.{ℕ, false, ◌≡◌, List, Some, None, IsSome, IfSome}
+use Rattle.std.specs.Prelude.{ℕ, false, ◌≡◌, List, [], Some, None, IsSome, IfSome}
 use Rattle.nm_types.specs.Frames.{Frame}
 use Rattle.nm_types.specs.declared.fault.StepFault.{StepFault}
 use Rattle.nm_types.specs.declared.id.Side.{Side}
@@ -37,13 +37,14 @@ pub record PassesSend (d : DeskState) (id : ℕ) : Type 0 where
   pub plain : IfSome (port_with_id d.own id) (λ (p : OwnPort). is_pipe_name p.name ≡ false)
   pub passes : refusal_at Tx id d.own ≡ None
 
--- the frames pushed were sent, and this is offered of them
+-- the frames pushed were sent, and this is offered of them; if nothing is, the desk is settled
 pub record IsSent (b new : Recorded) (d after : DeskState) (id : ℕ) (offers : OffersState) (frames : List Frame) : Type 0 where
   pub tx : HasTx d.own id
   pub is : tx_call d.own tx.port tx.ring ≡ Send tx.port.id frames
   pub made : Made b new d after (tx_call d.own tx.port tx.ring) (Offered offers.short offers.lone (dests_wanted offers.wants))
   pub offered : IsOffered new frames offers
   pub frames_fit : AreFrames frames
+  pub settled : offers.wants ≡ [] → IsSettled new.pool new.entries after.id
 
 -- they were not, and stay pushed
 pub record IsUnsent (b new : Recorded) (d after : DeskState) (id : ℕ) (fault : StepFault) : Type 0 where
