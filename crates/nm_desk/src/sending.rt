@@ -1,6 +1,7 @@
 //! A transmit sync by one entry: what was pushed is sent, or the ring reset.
-ghost use Rattle.std.specs.Prelude.{◌≡◌, true, Some, IsSome, IfOk, IfErr};
-ghost use Rattle.nm_types.specs.OwnPorts.{refusal_at, ring_at};
+ghost use Rattle.std.specs.Prelude.{◌≡◌, true, Some, IsSome, IfSome, IfOk, IfErr};
+ghost use Rattle.nm_types.specs.Names.{is_pipe_name};
+ghost use Rattle.nm_types.specs.OwnPorts.{port_with_id, refusal_at, ring_at};
 ghost use Rattle.nm_types.specs.declared.id.Side.TheVariants.{Tx};
 ghost use Rattle.nm_port.specs.Sides.{TellsRefusal};
 ghost use Rattle.vale_entry.specs.declared.entry.Ask.TheVariants as asks;
@@ -15,6 +16,22 @@ use nm_types::{Batch, PortId, Side, StepFault, SyncFault};
 use vale_book::{Book, Offers};
 
 impl Desk {
+    /// Whether a port is an end of a pipe.
+    pub fn is_pipe(&self, port: PortId) -> bool
+        requires { IsSome (port_with_id self.now.own port.0) }
+        ensures { IfSome (port_with_id self.now.own port.0)
+            (λ p. is_pipe_name p.name ≡ result) }
+    {
+        let name = match &self.own {
+            Some(own) => own.name(port),
+            None => unreachable!(),
+        };
+        match name {
+            Some(name) => name.is_pipe(),
+            None => unreachable!(),
+        }
+    }
+
     /// The first check that refuses a sync of a port's ring: `send` and the other syncs are for a ring
     /// that none refuses, and `reset` for one that is refused.
     pub fn check(&mut self, port: PortId, side: Side) -> Result<(), SyncFault>
